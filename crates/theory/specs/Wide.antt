@@ -1,0 +1,49 @@
+-- Refusal 11 never comes: within the limits every sum is far below 2^63.
+--
+--   never-wide    no sum over a loop or a path is wide at the period in lowest terms
+use mathlib.Core.Logic.{⊎-elim}
+use Prim.Native.Nat.{ℕ, _+_, _*_, _≤_, _<_, _^_}
+use native.Mathlib.Omega.{arith}
+use native.Mathlib.Nat.{mul-le-mul}
+use lib.ListN.{length}
+use Rattle.model.specs.Shape.{Shape, Fits}
+use Rattle.model.specs.Sums.{delays, offsets}
+use Rattle.model.specs.Walk.{Walk, sources}
+use Rattle.model.specs.Ratio.{Lowest}
+use Rattle.model.specs.Period.{Period}
+use Rattle.model.specs.Wide.{WideSum}
+use Rattle.theory.specs.Distinct.{pigeonhole}
+use Rattle.theory.specs.Sums.{delays-most, offsets-most}
+use Rattle.theory.specs.Loop.{sources-below, length-sources, loop-short}
+use Rattle.theory.specs.Period.{period-small}
+
+-- NEVER WIDE. A path or a loop has at most 256 rules, so delays sum to at most 256,000,000 and offsets to at most 3,840; so do P and Q, which are no
+-- larger than the sums of the loop that attains the period; and products of such are below 2^63.
+pub never-wide : (S : Shape) (D : ℕ → ℕ) (n P Q : ℕ) → n ≤ 256 → Fits S n → ((r : ℕ) → r < S.rules → S.offset r ≤ 15) → ((r : ℕ) → r < S.rules → D r ≤ 1000000)
+    → Period S D P Q → Lowest P Q → ¬ (WideSum (2 ^ 63) S D P Q)
+never-wide S D n P Q few fits o d p low x =
+    ⊎-elim (λ h. omega (arith, d1)) (λ h. ⊎-elim (λ h. omega (arith, o1)) (λ h. ⊎-elim (λ h. omega (arith, qd)) (λ h. omega (arith, po)) h) h) (x .big)
+  where
+    len : length (x .rs) ≤ 256
+    len = omega (arith, length-sources S n fits (x .rs), pigeonhole n (sources S (x .rs)) (x .simple) (sources-below S n fits (x .u) (x .w) (x .rs) (x .walks)))
+
+    o1 : offsets S (x .rs) ≤ 3840
+    o1 = omega (arith, offsets-most S 15 o (x .u) (x .w) (x .rs) (x .walks), len)
+
+    d1 : delays D (x .rs) ≤ 256000000
+    d1 = omega (arith, delays-most S D 1000000 d (x .u) (x .w) (x .rs) (x .walks), len)
+
+    ln : length (p .loop) ≤ 256
+    ln = omega (arith, loop-short S n fits (p .at) (p .loop) (p .is-loop))
+
+    q1 : Q ≤ 3840
+    q1 = omega (arith, period-small S D P Q p low .0, offsets-most S 15 o (p .at) (p .at) (p .loop) (p .is-loop .closed), ln)
+
+    p1 : P ≤ 256000000
+    p1 = omega (arith, period-small S D P Q p low .1, delays-most S D 1000000 d (p .at) (p .at) (p .loop) (p .is-loop .closed), ln)
+
+    qd : Q * delays D (x .rs) ≤ 3840 * 256000000
+    qd = mul-le-mul q1 d1
+
+    po : P * offsets S (x .rs) ≤ 256000000 * 3840
+    po = mul-le-mul p1 o1
