@@ -20,3 +20,5 @@ pub mod Times
 pub mod Wide
 pub mod Thesis
 pub mod Answer
+pub mod Same
+pub mod Near

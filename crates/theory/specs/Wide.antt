@@ -1,6 +1,6 @@
 -- Refusal 11 never comes: within the limits every sum is far below 2^63.
 --
---   never-wide    no sum over a loop or a path is wide at the period in lowest terms
+--   never-wide    no sum over a loop or a path is wide, with delays D, at the period with delays E in lowest terms
 use mathlib.Core.Logic.{⊎-elim}
 use Prim.Native.Nat.{ℕ, _+_, _*_, _≤_, _<_, _^_}
 use native.Mathlib.Omega.{arith}
@@ -19,9 +19,9 @@ use Rattle.theory.specs.Period.{period-small}
 
 -- NEVER WIDE. A path or a loop has at most 256 rules, so delays sum to at most 256,000,000 and offsets to at most 3,840; so do P and Q, which are no
 -- larger than the sums of the loop that attains the period; and products of such are below 2^63.
-pub never-wide : (S : Shape) (D : ℕ → ℕ) (n P Q : ℕ) → n ≤ 256 → Fits S n → ((r : ℕ) → r < S.rules → S.offset r ≤ 15) → ((r : ℕ) → r < S.rules → D r ≤ 1000000)
-    → Period S D P Q → Lowest P Q → ¬ (WideSum (2 ^ 63) S D P Q)
-never-wide S D n P Q few fits o d p low x =
+pub never-wide : (S : Shape) (D E : ℕ → ℕ) (n P Q : ℕ) → n ≤ 256 → Fits S n → ((r : ℕ) → r < S.rules → S.offset r ≤ 15) → ((r : ℕ) → r < S.rules → D r ≤ 1000000)
+    → ((r : ℕ) → r < S.rules → E r ≤ 1000000) → Period S E P Q → Lowest P Q → ¬ (WideSum (2 ^ 63) S D P Q)
+never-wide S D E n P Q few fits o d d′ p low x =
     ⊎-elim (λ h. omega (arith, d1)) (λ h. ⊎-elim (λ h. omega (arith, o1)) (λ h. ⊎-elim (λ h. omega (arith, qd)) (λ h. omega (arith, po)) h) h) (x .big)
   where
     len : length (x .rs) ≤ 256
@@ -37,10 +37,10 @@ never-wide S D n P Q few fits o d p low x =
     ln = omega (arith, loop-short S n fits (p .at) (p .loop) (p .is-loop))
 
     q1 : Q ≤ 3840
-    q1 = omega (arith, period-small S D P Q p low .0, offsets-most S 15 o (p .at) (p .at) (p .loop) (p .is-loop .closed), ln)
+    q1 = omega (arith, period-small S E P Q p low .0, offsets-most S 15 o (p .at) (p .at) (p .loop) (p .is-loop .closed), ln)
 
     p1 : P ≤ 256000000
-    p1 = omega (arith, period-small S D P Q p low .1, delays-most S D 1000000 d (p .at) (p .at) (p .loop) (p .is-loop .closed), ln)
+    p1 = omega (arith, period-small S E P Q p low .1, delays-most S E 1000000 d′ (p .at) (p .at) (p .loop) (p .is-loop .closed), ln)
 
     qd : Q * delays D (x .rs) ≤ 3840 * 256000000
     qd = mul-le-mul q1 d1

@@ -1,0 +1,376 @@
+-- What the steps of the climb ask for and promise, and the laws that carry its loops. S is the shape, D the delays.
+--
+--   rise                            == the most by which a value rises in a pass
+--   Asks i s t g h x                == rule i, from s to t, which adds g and whose offset takes h away, may ask: no sum wraps
+--   Risen i s t g h x₀ par₀ x par f == it raised t (f), or asked for no more than t had
+--   Query S D n P Q                 == rules within the limits, and a ratio that a closed walk can have
+--   Ready S D P Q x par             == a query, with the values and parents after some passes: what a pass asks for
+--   Ended S D P Q x₀ par₀ x par f   == what a pass promises
+--   Going S D P Q x₀ par₀ x par f i == a pass that began at x₀ and par₀, before its rule i: it raised something (f) or nothing
+--   Settling S D P Q n x par k      == the search at P/Q, after k passes
+--   Rising S D P Q                  == the climb has come to P/Q
+--   left P Q                        == the steps of 1/3840² that are left above P/Q
+--   going-start, going-asks, going-raise, going-keep, going-end                                            the loop of a pass
+--   settling-start, settling-ready, settling-sound, settling-quiet, settling-found, settling-on            the loop of passes
+--   least-low                       the least values that keep every rule are low
+--   rising-start, rising-query, rising-end, rising-divides, rising-next, rising-less                       the loop of ratios
+use mathlib.Core.Path.{_≡_, refl, sym, ap, subst}
+use mathlib.Core.Bool.{Bool, true, false}
+use mathlib.Core.Logic.{_⊎_, inl, inr, ⊎-elim, by-cases}
+use mathlib.Core.List.{List, [], _∷_}
+use Prim.Native.Nat.{ℕ, suc, _+_, _*_, _-_, _/_, _≤_, _<_}
+use native.Mathlib.Omega.{arith}
+use native.Mathlib.Nat.{le-trans, le-of-eq, mul-le-mul, mul-le-mul-left, mul-le-mul-right, lt-of-mul-lt-mul-right, div-le-self}
+use native.Mathlib.Decide.{decLt}
+use native.Mathlib.Numerals.{add-one}
+use lib.ListN.{length, getD, set, length-set, replicate, length-replicate, List·getD-eq-default}
+use lib.Seq.{getD-set-same}
+use Rattle.model.specs.Shape.{Shape, Fits}
+use Rattle.model.specs.Sums.{delays, offsets}
+use Rattle.model.specs.Walk.{Walk}
+use Rattle.model.specs.Loop.{Live}
+use Rattle.model.specs.Ratio.{Lowest}
+use Rattle.model.specs.Schedule.{Keeps, LeastSchedule}
+use Rattle.theory.specs.Sums.{delays-most}
+use Rattle.theory.specs.Walk.{Shortened, shorten, path-short}
+use Rattle.theory.specs.Schedule.{closed-not-above}
+use Rattle.theory.specs.Relax.{Below, values, zeros-at, values-attained}
+use Rattle.theory.specs.Ratio.{IsGcd, Reduces, gcd-quotients, divides-pos}
+use Rattle.theory.specs.Parents.{Parents, Sound, raised-not-grounded}
+use Rattle.theory.specs.Raise.{Raised, raised-start, Passing, passing-start, passing-raise, passing-leave, passing-end, settled}
+use Rattle.theory.specs.Period.{climbs, schedule-above}
+use Rattle.theory.specs.Climb.{ClosedWalk, closed-turns}
+use Rattle.engine.specs.Columns.{shape, delayAt, Limits, Short}
+use Rattle.engine.specs.Search.{Scanned, Passed, Settled, Reached}
+
+-- 2,048 rules, each by at most 3,840 times 1,000,000
+abbrev pub rise : ℕ
+rise = 7864320000000
+
+-- values up to 2^52: as many passes as there are transitions stay below that
+pub record Asks (i s t g h : ℕ) (x : List ℕ) : Type 0 where
+  pub rule-low : i < 2048
+  pub source-low : s < 256
+  pub target-low : t < 256
+  pub more : g ≤ 3840000000
+  pub less : h ≤ 3840000000
+  pub source-value : getD x s 0 ≤ 4503599627370496
+  pub target-value : getD x t 0 ≤ 4503599627370496
+
+pub record Risen (i s t g h : ℕ) (x₀ par₀ x par : List ℕ) (f : Bool) : Type 0 where
+  pub raised : f ≡ true → (getD x₀ t 0 + h < getD x₀ s 0 + g) × (x ≡ set x₀ t (getD x₀ s 0 + g - h)) × (par ≡ set par₀ t (i + 1))
+  pub kept : f ≡ false → (getD x₀ s 0 + g ≤ getD x₀ t 0 + h) × (x ≡ x₀) × (par ≡ par₀)
+
+pub record Query (S : Shape) (D : ℕ → ℕ) (n P Q : ℕ) : Type 0 where
+  pub few-rules : S.rules ≤ 2048
+  pub some-transition : 1 ≤ n
+  pub few-transitions : n ≤ 256
+  pub fits : Fits S n
+  pub small-offsets : (r : ℕ) → r < S.rules → S.offset r ≤ 15
+  pub short : (r : ℕ) → r < S.rules → D r ≤ 1000000
+  pub P-low : P ≤ 256000000
+  pub Q-low : Q ≤ 3840
+
+pub record Ready (S : Shape) (D : ℕ → ℕ) (P Q : ℕ) (x par : List ℕ) : Type 0 where
+  pub query : Query S D 256 P Q
+  pub x-room : length x ≡ 256
+  pub par-room : length par ≡ 256
+  pub passes : ℕ
+  pub few-passes : passes ≤ 256
+  pub raised : Raised S D P Q rise passes x par
+
+pub record Ended (S : Shape) (D : ℕ → ℕ) (P Q : ℕ) (x₀ par₀ x par : List ℕ) (f : Bool) : Type 0 where
+  pub x-room : length x ≡ 256
+  pub par-room : length par ≡ 256
+  pub passed : (k : ℕ) → Raised S D P Q rise k x₀ par₀ → Passed S D P Q rise k x₀ x par f
+
+pub record Going (S : Shape) (D : ℕ → ℕ) (P Q : ℕ) (x₀ par₀ x par : List ℕ) (f : Bool) (i : ℕ) : Type 0 where
+  pub x-room : length x ≡ 256
+  pub par-room : length par ≡ 256
+  pub passing : (k : ℕ) → Raised S D P Q rise k x₀ par₀ → Passing S D P Q 1000000 (k * rise) x₀ x par i
+  pub quiet : f ≡ false → x ≡ x₀
+  pub busy : f ≡ true → (r : ℕ) × (r < S.rules) × (getD x₀ (S.target r) 0 < getD x (S.target r) 0)
+
+pub record Settling (S : Shape) (D : ℕ → ℕ) (P Q n : ℕ) (x par : List ℕ) (k : ℕ) : Type 0 where
+  pub few-passes : k < n
+  pub x-room : length x ≡ 256
+  pub par-room : length par ≡ 256
+  pub raised : Raised S D P Q rise k x par
+
+pub record Rising (S : Shape) (D : ℕ → ℕ) (P Q : ℕ) : Type 0 where
+  pub P-low : P ≤ 256000000
+  pub Q-low : Q ≤ 3840
+  pub Q-pos : 0 < Q
+  pub lowest : Lowest P Q
+  pub attained : ((P ≡ 0) × (Q ≡ 1)) ⊎ ((a : ℕ) × (e : ℕ) × ClosedWalk S D a e × (Q * a ≡ P * e))
+
+-- 256,000,000 times 3840², and 1
+abbrev pub left : ℕ → ℕ → ℕ
+left P Q = 3774873600000001 - P * (3840 * 3840) / Q
+
+-- a flag is not both
+pub not-both : (f : Bool) → f ≡ true → f ≡ false → ⊥
+not-both f p q = let z : _≡_ {A = ℕ} 0 1 = cc in omega arith
+
+-- a pass -----------------------------------------------------------------------------------------------------------------------------------
+module _ {S : Shape} {D : ℕ → ℕ} {P Q : ℕ} {x₀ par₀ : List ℕ} (ready : Ready S D P Q x₀ par₀) where
+  pub going-start : Going S D P Q x₀ par₀ x₀ par₀ false 0
+  going-start =
+      record {
+        x-room = ready .x-room;
+        par-room = ready .par-room;
+        passing = λ k h. passing-start S D P Q 1000000 rise k x₀ par₀ h;
+        quiet = λ e. refl;
+        busy = λ e. absurd (not-both false e refl);
+      }
+
+  -- k rules add at most k times 3,840 times 1,000,000
+  added : (k : ℕ) → k ≤ S.rules → k * (Q * 1000000) ≤ rise
+  added k b = omega (arith, mul-le-mul {n₁ = k} {m₁ = Q * 1000000} {n₂ = 2048} {m₂ = 3840000000} (omega (arith, ready .query .few-rules)) (omega (arith, ready .query .Q-low)))
+
+  module _ {x par : List ℕ} {f : Bool} {i : ℕ} (is-rule : i < S.rules) (h : Going S D P Q x₀ par₀ x par f i) where
+    so-far : Passing S D P Q 1000000 (ready .passes * rise) x₀ x par i
+    so-far = h .passing (ready .passes) (ready .raised)
+
+    low : (v : ℕ) → getD x v 0 ≤ 4503599627370496
+    low v = omega (arith, so-far .most v, ready .few-passes, added i (omega arith))
+
+    pub going-asks : Asks i (S.source i) (S.target i) (Q * D i) (P * S.offset i) x
+    going-asks =
+        record {
+          rule-low = omega (arith, ready .query .few-rules);
+          source-low = ready .query .fits i is-rule .0;
+          target-low = ready .query .fits i is-rule .1;
+          more = omega (arith, mul-le-mul (ready .query .Q-low) (ready .query .short i is-rule));
+          less = omega (arith, mul-le-mul (ready .query .P-low) (ready .query .small-offsets i is-rule));
+          source-value = low (S.source i);
+          target-value = low (S.target i);
+        }
+
+    -- a turn of the loop, by what the rule did (g)
+    module _ {x′ par′ : List ℕ} {f′ g : Bool} (risen : Risen i (S.source i) (S.target i) (Q * D i) (P * S.offset i) x par x′ par′ g) where
+      pub going-raise : g ≡ true → f′ ≡ true → Going S D P Q x₀ par₀ x′ par′ f′ (i + 1)
+      going-raise e t =
+          let (l, ex, ep) = risen .raised e in
+          rw (t, ex, ep, add-one i)
+          (record {
+            x-room = simp length-set (h .x-room);
+            par-room = simp length-set (h .par-room);
+            passing = λ k r. passing-raise S D P Q 1000000 (k * rise) x₀ x par i (h .passing k r) is-rule in-x in-par (ready .query .short i is-rule) l;
+            quiet = λ e. absurd (not-both true refl e);
+            busy = λ e. (i, is-rule, omega (arith, getD-set-same x (S.target i) (getD x (S.source i) 0 + Q * D i - P * S.offset i) 0 in-x, so-far .up (S.target i)));
+          })
+        where
+          in-x : S.target i < length x
+          in-x = omega (arith, h .x-room, ready .query .fits i is-rule)
+
+          in-par : S.target i < length par
+          in-par = omega (arith, h .par-room, ready .query .fits i is-rule)
+
+      pub going-keep : g ≡ false → f′ ≡ f → Going S D P Q x₀ par₀ x′ par′ f′ (i + 1)
+      going-keep e t =
+          let (l, ex, ep) = risen .kept e in
+          rw (t, ex, ep, add-one i)
+          (record {
+            x-room = h .x-room;
+            par-room = h .par-room;
+            passing = λ k r. passing-leave S D P Q 1000000 (k * rise) x₀ x par i (h .passing k r) is-rule l;
+            quiet = h .quiet;
+            busy = h .busy;
+          })
+
+  pub going-end : {x par : List ℕ} {f : Bool} {i : ℕ} → i ≡ S.rules → Going S D P Q x₀ par₀ x par f i → Ended S D P Q x₀ par₀ x par f
+  going-end {x} {par} {f} {i} all h =
+      record {
+        x-room = h .x-room;
+        par-room = h .par-room;
+        passed = λ k r.
+            record {
+              raised = passing-end S D P Q 1000000 rise k x₀ x par₀ par r (added S.rules (omega arith)) (passing k r);
+              quiet = λ e. settled S D P Q 1000000 (k * rise) x par (subst (λ y. Passing S D P Q 1000000 (k * rise) y x par S.rules) (sym (h .quiet e)) (passing k r));
+              busy = h .busy;
+            };
+      }
+    where
+      passing : (k : ℕ) → Raised S D P Q rise k x₀ par₀ → Passing S D P Q 1000000 (k * rise) x₀ x par S.rules
+      passing k r = subst (λ j. Passing S D P Q 1000000 (k * rise) x₀ x par j) all (h .passing k r)
+
+-- the search at one ratio ------------------------------------------------------------------------------------------------------------------
+module _ {S : Shape} {D : ℕ → ℕ} {n P Q : ℕ} (query : Query S D n P Q) where
+  pub settling-start : Settling S D P Q n (replicate 256 0) (replicate 256 0) 0
+  settling-start =
+      record {
+        few-passes = query .some-transition;
+        x-room = length-replicate {A = ℕ} 256 0;
+        par-room = length-replicate {A = ℕ} 256 0;
+        raised = raised-start S D P Q rise 256;
+      }
+
+  module _ {x₀ par₀ : List ℕ} {k : ℕ} (h : Settling S D P Q n x₀ par₀ k) where
+    pub settling-ready : Ready S D P Q x₀ par₀
+    settling-ready =
+        record {
+          query = record {
+            few-rules = query .few-rules;
+            some-transition = omega arith;
+            few-transitions = omega arith;
+            fits = λ r b. (omega (arith, query .fits r b, query .few-transitions), omega (arith, query .fits r b, query .few-transitions));
+            small-offsets = query .small-offsets;
+            short = query .short;
+            P-low = query .P-low;
+            Q-low = query .Q-low;
+          };
+          x-room = h .x-room;
+          par-room = h .par-room;
+          passes = k;
+          few-passes = omega (arith, h .few-passes, query .few-transitions);
+          raised = h .raised;
+        }
+
+    module _ {x par : List ℕ} {f : Bool} (ended : Ended S D P Q x₀ par₀ x par f) where
+      passed : Passed S D P Q rise k x₀ x par f
+      passed = ended .passed k (h .raised)
+
+      pub settling-sound : Sound S D P Q x par
+      settling-sound = passed .raised .sound
+
+      -- nothing rose: the least values that keep every rule
+      pub settling-quiet : f ≡ false → Settled S D P Q n x false 0 0
+      settling-quiet e =
+          record {
+            keeps = λ z. passed .quiet e;
+            least = λ z. passed .raised .least;
+            walk = λ z. absurd (not-both false z refl);
+            above = λ z. absurd (not-both false z refl);
+            delays-low = λ z. absurd (not-both false z refl);
+            offsets-low = λ z. absurd (not-both false z refl);
+          }
+
+      module _ {g : Bool} {a e : ℕ} (scanned : Scanned S D n par g a e) where
+        -- the parents came round: that walk is above P/Q
+        pub settling-found : g ≡ true → Settled S D P Q n x g a e
+        settling-found t =
+            let w = scanned .some t in
+            record {
+              keeps = λ z. absurd (not-both g t z);
+              least = λ z. absurd (not-both g t z);
+              walk = λ z. record { at = w .at; walk = w .walk; some-rule = w .some-rule; closed = w .closed; delays-are = w .delays-are; offsets-are = w .offsets-are };
+              above = λ z. round (w .at) (w .walk) (w .some-rule) (w .closed) (w .parents) (w .delays-are) (w .offsets-are);
+              delays-low = λ z. w .delays-low;
+              offsets-low = λ z. w .offsets-low;
+            }
+          where
+            round : (u : ℕ) (rs : List ℕ) → 0 < length rs → Walk S u u rs → Parents S par rs → delays D rs ≡ a → offsets S rs ≡ e → P * e < Q * a
+            round u [] b c d ea ee = absurd (omega arith)
+            round u (r ∷ rs) b c d ea ee = omega (arith, settling-sound .cycles u r rs c d, ap (λ t. Q * t) ea, ap (λ t. P * t) ee)
+
+        -- they did not, though something rose: so this was not pass number n
+        pub settling-on : f ≡ true → g ≡ false → Settling S D P Q n x par (k + 1)
+        settling-on t none =
+            rw (add-one k) (record { few-passes = more (passed .busy t); x-room = ended .x-room; par-room = ended .par-room; raised = passed .raised })
+          where
+            not-last : ((r : ℕ) × (r < S.rules) × (getD x₀ (S.target r) 0 < getD x (S.target r) 0)) → n ≤ suc k → ⊥
+            not-last (r, is-rule, up) b =
+                raised-not-grounded S n par D P Q x₀ x k (S.target r) (query .fits) settling-sound b (h .raised .reach) up
+                (scanned .none none (S.target r) (query .fits r is-rule .1))
+
+            more : ((r : ℕ) × (r < S.rules) × (getD x₀ (S.target r) 0 < getD x (S.target r) 0)) → suc k < n
+            more b = let last = not-last b in by-cases (decLt (suc k) n) (λ l. l) (λ l. absurd (last (omega arith)))
+
+-- LEAST VALUES ARE LOW. A schedule that passes come to has no value above the weight of a path, which has less than n rules; the least is below it.
+module _ {S : Shape} {D : ℕ → ℕ} {n P Q : ℕ} (query : Query S D n P Q) (x : List ℕ) (keeps : Keeps S D P Q x) (least : (Y : List ℕ) → Keeps S D P Q Y → Below x Y) where
+  abbrev top : List ℕ
+  top = values S D P Q n n
+
+  schedule : LeastSchedule S D n P Q top
+  schedule = schedule-above S D n P Q (query .fits) (λ u rs l. closed-not-above S D P Q x keeps u rs (l .closed))
+
+  path-low : (u v y : ℕ) (rs : List ℕ) → u < n → Shortened S D P Q u v rs → y + P * offsets S rs ≤ Q * delays D rs → y ≤ Q * ((n - 1) * 1000000)
+  path-low u v y rs b t l =
+      let short = path-short S n (query .fits) u v (t .path) b (t .walks) (t .distinct) in
+      let most = delays-most S D 1000000 (query .short) u v (t .path) (t .walks) in
+      le-trans (omega (arith, t .heavy)) (mul-le-mul-left Q (le-trans most (mul-le-mul-right 1000000 (omega arith))))
+
+  pub least-low : (v : ℕ) → getD x v 0 ≤ Q * ((n - 1) * 1000000)
+  least-low v = le-trans (least top (schedule .is-schedule .keeps) v) (by-cases (decLt v n) inside (λ l. omega (arith, List·getD-eq-default top 0 {n = v} (omega (arith, schedule .is-schedule .size)))))
+    where
+      inside : v < n → getD top v 0 ≤ Q * ((n - 1) * 1000000)
+      inside b =
+          let t = values-attained S D P Q n (query .fits) (replicate n 0) (le-of-eq (sym (length-replicate {A = ℕ} n 0))) n v b in
+          ⊎-elim
+          (λ o. absurd (omega (arith, o .above, closed-not-above S D P Q x keeps (o .at) (o .loop) (o .is-loop .closed))))
+          (λ h. path-low (t .start) v (getD top v 0) (t .walk) (t .start-below) h (omega (arith, t .weight, zeros-at n (t .start))))
+          (shorten S D P Q (suc (length (t .walk))) (t .start) v (t .walk) (omega arith) (t .walks))
+
+-- the climb --------------------------------------------------------------------------------------------------------------------------------
+-- a ratio that the climb has come to is one to search at
+pub rising-query : {source target offset : List ℕ} {m n P Q : ℕ} (delay : List ℕ) → Limits source target offset m n → Short delay m
+    → Rising (shape source target offset m) (delayAt delay) P Q → Query (shape source target offset m) (delayAt delay) n P Q
+rising-query delay l short rising =
+    record {
+      few-rules = l .few-rules;
+      some-transition = l .some-transition;
+      few-transitions = l .few-transitions;
+      fits = l .fits;
+      small-offsets = l .small-offsets;
+      short = short;
+      P-low = rising .P-low;
+      Q-low = rising .Q-low;
+    }
+
+module _ {S : Shape} {D : ℕ → ℕ} where
+  -- 0/1 is in lowest terms
+  pub rising-start : Rising S D 0 1
+  rising-start =
+      record {
+        P-low = omega arith;
+        Q-low = omega arith;
+        Q-pos = omega arith;
+        lowest = gcd-quotients 0 1 1 (omega arith) (record { common = ((0, omega arith), (1, omega arith)); greatest = λ e c. c .1 }) .lowest;
+        attained = inl (refl, refl);
+      }
+
+  module _ {P Q n : ℕ} {x : List ℕ} {f : Bool} {a e : ℕ} (rising : Rising S D P Q) (end : Settled S D P Q n x f a e) where
+    -- no closed walk is above P/Q
+    pub rising-end : Query S D n P Q → length x ≡ 256 → f ≡ false → Reached S D P Q x
+    rising-end query size z =
+        record {
+          climbed = record { Q-pos = rising .Q-pos; lowest = rising .lowest; keeps = end .keeps z; least = end .least z; attained = rising .attained };
+          P-low = rising .P-low;
+          Q-low = rising .Q-low;
+          size = size;
+          low = λ v. le-trans (least-low query x (end .keeps z) (end .least z) v) (mul-le-mul {n₁ = Q} {m₁ = (n - 1) * 1000000} {n₂ = 3840} {m₂ = 255000000} (rising .Q-low) (omega (arith, query .few-transitions)));
+        }
+
+    -- one is, and is divided through by d
+    module _ {d : ℕ} (live : Live S) (few : n ≤ 256) (z : f ≡ true) (gcd : IsGcd a e d) where
+      turns : 0 < e
+      turns = let w = end .walk z in omega (arith, closed-turns S live (w .at) (w .walk) (w .some-rule) (w .closed), w .offsets-are)
+
+      pub rising-divides : 0 < d
+      rising-divides = divides-pos d e turns (gcd .common .1)
+
+      red : Reduces a e (a / d) (e / d) d
+      red = gcd-quotients a e d turns gcd
+
+      pub rising-next : Rising S D (a / d) (e / d)
+      rising-next =
+          record {
+            P-low = omega (arith, div-le-self a d, end .delays-low z);
+            Q-low = omega (arith, div-le-self e d, end .offsets-low z);
+            Q-pos = divides-pos (e / d) e turns (d, omega (arith, red .Q-is));
+            lowest = red .lowest;
+            attained = inr (a, e, end .walk z, omega (arith, ap (λ t. e / d * t) (red .P-is), ap (λ t. a / d * t) (red .Q-is)));
+          }
+
+      pub rising-less : left (a / d) (e / d) < left P Q
+      rising-less =
+          omega (
+            arith,
+            climbs 3840 P Q (a / d) (e / d) (rising .Q-pos) (rising-next .Q-pos) (rising .Q-low) (rising-next .Q-low) above,
+            div-le-self (a / d * (3840 * 3840)) (e / d),
+            rising-next .P-low,
+          )
+        where
+          above : P * (e / d) < a / d * Q
+          above = lt-of-mul-lt-mul-right d (omega (arith, end .above z, ap (λ t. Q * t) (red .P-is), ap (λ t. P * t) (red .Q-is)))

@@ -1,0 +1,13 @@
+pub mod Columns
+pub mod Search
+pub mod Scan
+pub mod Climbing
+pub mod Sum
+pub mod Listed
+pub mod Peel
+pub mod Near
+pub mod Found
+pub mod Lay
+pub mod Verdict
+pub mod Lap
+pub mod Turn

@@ -1,0 +1,142 @@
+-- What the paper says of a table, whatever is asked of it: one of five cases, and only one.
+--
+--   Verdict             == field k outside its limits; a loop without a turn, named at u; no loop; a sum that is too wide; or the answer a
+--   WideAt S K a        == the case of refusal 11: a sum is 2^63 or more, with every delay at its least at the low end, or at its greatest at the high end
+--   Judges t v          == v is the verdict on the table t
+--
+-- Theorems: never-wide-at (refusal 11 never comes), verdict-exists, verdict-unique, refused-exactly (demand 2), narrowed (demand 3).
+use mathlib.Core.Path.{_≡_, refl, sym, ap, _∙_, subst}
+use mathlib.Core.Bool.{Bool, true, false}
+use mathlib.Core.Logic.{_⊎_, inl, inr, ⊎-elim}
+use mathlib.Core.List.{List}
+use Prim.Native.Nat.{ℕ, _+_, _*_, _≤_, _<_, _^_}
+use native.Mathlib.Omega.{arith}
+use lib.ListN.{getD}
+use Rattle.model.specs.Shape.{Shape, Fits}
+use Rattle.model.specs.Loop.{SomeLoop, NoLoop, Live}
+use Rattle.model.specs.Knot.{Knot}
+use Rattle.model.specs.Filling.{Ranges, Filling}
+use Rattle.model.specs.Ends.{Narrows}
+use Rattle.model.specs.Wide.{WideSum}
+use Rattle.model.specs.Answer.{Answer, Exact, Answers}
+use Rattle.theory.specs.Filling.{Proper, ranges-proper}
+use Rattle.theory.specs.Knot.{knot-unique, knot-not-live, knot-or-live, loop-or-none}
+use Rattle.theory.specs.Answer.{answer-unique, answer-exists}
+use Rattle.theory.specs.Wide.{never-wide}
+use Rattle.theory.specs.Ends.{low-inward, high-inward, exact-stays}
+use Rattle.table.specs.declared.Table.{Table}
+use Rattle.table.specs.Limits.{maxOffset, maxDelay}
+use Rattle.table.specs.Form.{unusedRule}
+use Rattle.table.specs.Fields.{Within, FirstBad, within-or-first-bad, within-not-bad, first-bad-unique}
+use Rattle.table.specs.Meaning.{used, delayOf, shapeOf, rangesOf, within-fits, within-offsets, within-delays}
+
+pub data Verdict : Type 0 where
+  outside : ℕ → Verdict
+  knotted : ℕ → Verdict
+  flat : Verdict
+  wide : Verdict
+  found : Answer → Verdict
+
+abbrev pub WideAt : Shape → Ranges → Answer → Type 0
+WideAt S K a = WideSum (2 ^ 63) S K.least (a .lowP) (a .lowQ) ⊎ WideSum (2 ^ 63) S K.greatest (a .highP) (a .highQ)
+
+abbrev pub Judges : Table → Verdict → Type 0
+Judges t (outside k) = FirstBad t k
+Judges t (knotted u) = Within t × Knot (shapeOf t) u
+Judges t flat = Within t × Live (shapeOf t) × NoLoop (shapeOf t)
+Judges t wide = Within t × Live (shapeOf t) × ((a : Answer) × Answers (shapeOf t) (rangesOf t) (t .n) a × WideAt (shapeOf t) (rangesOf t) a)
+Judges t (found a) = Within t × Live (shapeOf t) × Answers (shapeOf t) (rangesOf t) (t .n) a × (¬ (WideAt (shapeOf t) (rangesOf t) a))
+
+proper : (t : Table) → Proper (shapeOf t) (rangesOf t)
+proper t = ranges-proper (shapeOf t) maxDelay (λ r. delayOf (getD (used t) r unusedRule .delay))
+
+-- NEVER WIDE
+pub never-wide-at : (t : Table) → Within t → (a : Answer) → Answers (shapeOf t) (rangesOf t) (t .n) a → ¬ (WideAt (shapeOf t) (rangesOf t) a)
+never-wide-at t w a x =
+    ⊎-elim
+    (never-wide (shapeOf t) (rangesOf t .least) (x .low .attained .D) (t .n) (a .lowP) (a .lowQ) (w .n-high) (within-fits t w) (within-offsets t w) least
+    (below (x .low .attained .D) (x .low .attained .fills)) (x .low .attained .period) (x .low .attained .lowest))
+    (never-wide (shapeOf t) (rangesOf t .greatest) (x .high .attained .D) (t .n) (a .highP) (a .highQ) (w .n-high) (within-fits t w) (within-offsets t w) (within-delays t w)
+    (below (x .high .attained .D) (x .high .attained .fills)) (x .high .attained .period) (x .high .attained .lowest))
+  where
+    least : (r : ℕ) → r < t .m → rangesOf t .least r ≤ 1000000
+    least r b = omega (arith, within-delays t w r b, proper t r b)
+
+    below : (D : ℕ → ℕ) → Filling (shapeOf t) (rangesOf t) D → (r : ℕ) → r < t .m → D r ≤ 1000000
+    below D f r b = omega (arith, f r b, within-delays t w r b)
+
+-- THERE IS A VERDICT
+pub verdict-exists : (t : Table) → (v : Verdict) × Judges t v
+verdict-exists t = ⊎-elim inside (λ b. (outside (b .0), b .1)) (within-or-first-bad t)
+  where
+    answer : Within t → Live (shapeOf t) → SomeLoop (shapeOf t) → (v : Verdict) × Judges t v
+    answer w live some =
+        let (a, x) = answer-exists (shapeOf t) (rangesOf t) (t .n) (proper t) (within-fits t w) maxOffset maxDelay (within-offsets t w) (within-delays t w) live some in
+        (found a, (w, live, x, never-wide-at t w a x))
+
+    inside : Within t → (v : Verdict) × Judges t v
+    inside w =
+        ⊎-elim
+        (λ k. (knotted (k .0), (w, k .1)))
+        (λ live. ⊎-elim (answer w live) (λ none. (flat, (w, live, none))) (loop-or-none (shapeOf t) (t .n) (within-fits t w)))
+        (knot-or-live (shapeOf t) (t .n) (within-fits t w))
+
+-- an answer speaks of a loop
+answers-loop : (S : Shape) (K : Ranges) (n : ℕ) (a : Answer) → Answers S K n a → ¬ (NoLoop S)
+answers-loop S K n a x none = none (x .low .attained .period .at) (x .low .attained .period .loop) (x .low .attained .period .is-loop)
+
+-- ONLY ONE
+pub verdict-unique : (t : Table) (v w : Verdict) → Judges t v → Judges t w → v ≡ w
+verdict-unique t (outside j) (outside k) a b = ap outside (first-bad-unique t j k a b)
+verdict-unique t (outside j) (knotted u) a b = absurd (within-not-bad t j (b .0) a)
+verdict-unique t (outside j) flat a b = absurd (within-not-bad t j (b .0) a)
+verdict-unique t (outside j) wide a b = absurd (within-not-bad t j (b .0) a)
+verdict-unique t (outside j) (found y) a b = absurd (within-not-bad t j (b .0) a)
+verdict-unique t (knotted u) (outside k) a b = absurd (within-not-bad t k (a .0) b)
+verdict-unique t (knotted u) (knotted w) a b = ap knotted (knot-unique (shapeOf t) u w (a .1) (b .1))
+verdict-unique t (knotted u) flat a b = absurd (knot-not-live (shapeOf t) u (a .1) (b .1))
+verdict-unique t (knotted u) wide a b = absurd (knot-not-live (shapeOf t) u (a .1) (b .1))
+verdict-unique t (knotted u) (found y) a b = absurd (knot-not-live (shapeOf t) u (a .1) (b .1))
+verdict-unique t flat (outside k) a b = absurd (within-not-bad t k (a .0) b)
+verdict-unique t flat (knotted w) a b = absurd (knot-not-live (shapeOf t) w (b .1) (a .1))
+verdict-unique t flat flat a b = refl
+verdict-unique t flat wide a b = absurd (never-wide-at t (b .0) (b .2 .0) (b .2 .1) (b .2 .2))
+verdict-unique t flat (found y) a b = absurd (answers-loop (shapeOf t) (rangesOf t) (t .n) y (b .2) (a .2))
+verdict-unique t wide w a b = absurd (never-wide-at t (a .0) (a .2 .0) (a .2 .1) (a .2 .2))
+verdict-unique t (found x) (outside k) a b = absurd (within-not-bad t k (a .0) b)
+verdict-unique t (found x) (knotted w) a b = absurd (knot-not-live (shapeOf t) w (b .1) (a .1))
+verdict-unique t (found x) flat a b = absurd (answers-loop (shapeOf t) (rangesOf t) (t .n) x (a .2) (b .2))
+verdict-unique t (found x) wide a b = absurd (never-wide-at t (b .0) (b .2 .0) (b .2 .1) (b .2 .2))
+verdict-unique t (found x) (found y) a b = ap found (answer-unique (shapeOf t) (rangesOf t) (t .n) x y (a .2) (b .2))
+
+-- DEMAND 2: a list within the limits has an answer, unless a loop has no turn or no loop exists
+pub refused-exactly : (t : Table) → Within t → ((a : Answer) × Judges t (found a)) ⊎ (((u : ℕ) × Knot (shapeOf t) u) ⊎ NoLoop (shapeOf t))
+refused-exactly t w = at (verdict-exists t .0) (verdict-exists t .1)
+  where
+    at : (v : Verdict) → Judges t v → ((a : Answer) × Judges t (found a)) ⊎ (((u : ℕ) × Knot (shapeOf t) u) ⊎ NoLoop (shapeOf t))
+    at (outside k) j = absurd (within-not-bad t k w j)
+    at (knotted u) j = inr (inl (u, j .1))
+    at flat j = inr (inr (j .2))
+    at wide j = absurd (never-wide-at t (j .0) (j .2 .0) (j .2 .1) (j .2 .2))
+    at (found a) j = inl (a, j)
+
+-- what filling blanks may do to a verdict: nothing to a refusal; to an answer, move its ends inward, and leave an exact one
+abbrev pub Inward : Verdict → Verdict → Type 0
+Inward (found a) (found b) =
+    (a .lowP * b .lowQ ≤ b .lowP * a .lowQ) × (b .highP * a .highQ ≤ a .highP * b .highQ)
+    × (a .exact ≡ true → (b .lowP ≡ a .lowP) × (b .lowQ ≡ a .lowQ) × (b .highP ≡ a .highP) × (b .highQ ≡ a .highQ) × (b .exact ≡ true))
+Inward (outside j) w = w ≡ outside j
+Inward (knotted u) w = w ≡ knotted u
+Inward flat w = w ≡ flat
+Inward wide w = w ≡ wide
+Inward (found a) (outside k) = ⊥
+Inward (found a) (knotted u) = ⊥
+Inward (found a) flat = ⊥
+Inward (found a) wide = ⊥
+
+-- DEMAND 3, BETWEEN TWO TABLES: t′ is t with some blanks filled in range
+pub record Filled (t t′ : Table) : Type 0 where
+  pub n-same : t .n ≡ t′ .n
+  pub shape-same : shapeOf t ≡ shapeOf t′
+  pub narrows : Narrows (shapeOf t) (rangesOf t) (rangesOf t′)
+  pub within : Within t → Within t′

@@ -1,0 +1,408 @@
+// The first loop of a kind of rule: through the lowest transition on any of them, of fewest rules, then first in the order of rule numbers.
+ghost use mathlib.Core.Path.{_≡_};
+ghost use mathlib.Core.Logic.{_⊎_};
+ghost use mathlib.Core.Bool.{true, false};
+ghost use mathlib.Core.List.{[]};
+ghost use Prim.Native.Nat.{ℕ, _+_, _*_, _^_, _≤_, _<_};
+ghost use lib.ListN.{getD, take};
+ghost use Rattle.theory.specs.Schedule.{TightRule};
+ghost use Rattle.engine.specs.Columns.{shape, delayAt, Limits, Short};
+ghost use Rattle.engine.specs.Listed.{Listed, Gathered, plain, Within};
+ghost use Rattle.engine.specs.Peel.{Marked, Struck, Stays};
+ghost use Rattle.engine.specs.Near.{awayFrom, Near, Settled, Nearer, Swept, turnOf, Ways, followed};
+ghost use Rattle.engine.specs.Found.{numbers, Ready, FoundIn, FoundFirst};
+
+// The rules of a kind, by number, lowest first.
+struct Kind {
+    rules: [u16; 2048],
+    len: usize,
+}
+
+// A loop of `len` rules, read from transition `at`: none where `len` is 0.
+pub struct Found {
+    pub len: usize,
+    pub at: usize,
+    pub rules: [u16; 256],
+}
+
+// No transition is as far as this.
+const FAR: usize = 512;
+
+// An element is read through these: a cast of the element itself would ask for its bound.
+fn wide(x: u16) -> usize
+    ensures { λ r. ⌜ r ≡ x ⌝ }
+{
+    x as usize
+}
+
+fn wide_offset(x: u16) -> u64
+    ensures { λ r. ⌜ r ≡ x ⌝ }
+{
+    x as u64
+}
+
+fn wide_delay(x: u32) -> u64
+    ensures { λ r. ⌜ r ≡ x ⌝ }
+{
+    x as u64
+}
+
+fn narrow(x: usize) -> u16
+    requires { ⌜ x < 65536 ⌝ }
+    ensures { λ r. ⌜ r ≡ x ⌝ }
+{
+    x as u16
+}
+
+// The rules of offset 0.
+fn zero_rules(offset: &[u16; 2048], m: usize) -> Kind
+    requires { ⌜ m ≤ 2048 ⌝ }
+    ensures { λ r. ⌜ Listed (λ i. getD (now (offset .entry)) i 0 ≡ 0) (r .rules) (r .len) m ⌝ }
+{
+    let mut rules = [0u16; 2048];
+    let mut len = 0;
+    let mut r = 0;
+    while r < m {
+        if wide(offset[r]) == 0 {
+            rules[len] = narrow(r);
+            len += 1;
+        }
+        r += 1;
+    }
+    Kind {
+        rules: rules,
+        len: len,
+    }
+}
+
+// A rule from a transition scheduled at xs to one at xt is kept with nothing to spare.
+fn tight(xs: u64, xt: u64, offset: u16, delay: u32, p: u64, q: u64) -> bool
+    requires { ⌜ (xs ≤ 2 ^ 62) × (xt ≤ 2 ^ 62) × (offset ≤ 15) × (delay ≤ 1000000) × (p ≤ 256000000) × (q ≤ 3840) ⌝ }
+    ensures { λ r. ⌜ (r ≡ true → xs + q * delay ≡ xt + p * offset) × (r ≡ false → xs + q * delay ≡ xt + p * offset → ⊥) ⌝ }
+{
+    if xs + q * wide_delay(delay) == xt + p * wide_offset(offset) {
+        return true;
+    }
+    false
+}
+
+// The rules that are tight at the schedule x.
+fn tight_rules(
+    source: &[u16; 2048],
+    target: &[u16; 2048],
+    offset: &[u16; 2048],
+    delay: &[u32; 2048],
+    m: usize,
+    p: u64,
+    q: u64,
+    x: &[u64; 256],
+) -> Kind
+    requires { ⌜ Limits (now source) (now target) (now offset) m 256 ⌝ }
+    requires { ⌜ Short (now delay) m ⌝ }
+    requires { ⌜ (p ≤ 256000000) × (q ≤ 3840) × ((v : ℕ) → getD (now x) v 0 ≤ 2 ^ 62) ⌝ }
+    ensures { λ r. ⌜ Listed (TightRule (shape (now (source .entry)) (now (target .entry)) (now (offset .entry)) m) (delayAt (now (delay .entry))) p q (now (x .entry))) (r .rules) (r .len) m ⌝ }
+{
+    let mut rules = [0u16; 2048];
+    let mut len = 0;
+    let mut r = 0;
+    while r < m {
+        let s = wide(source[r]);
+        let t = wide(target[r]);
+        if tight(x[s], x[t], offset[r], delay[r], p, q) {
+            rules[len] = narrow(r);
+            len += 1;
+        }
+        r += 1;
+    }
+    Kind {
+        rules: rules,
+        len: len,
+    }
+}
+
+// A column's entries for the listed rules only: rule j of the list stands at place j.
+fn gather(column: &[u16; 2048], list: &[u16; 2048], len: usize) -> [u16; 2048]
+    requires { ⌜ len ≤ 2048 ⌝ }
+    requires { ⌜ ((j : ℕ) → j < len → getD (now list) j 0 < 2048) ⌝ }
+    ensures { λ r. ⌜ Gathered (now (column .entry)) (now (list .entry)) len r ⌝ }
+{
+    let mut picked = [0u16; 2048];
+    let mut j = 0;
+    while j < len {
+        let r = wide(list[j]);
+        picked[j] = column[r];
+        j += 1;
+    }
+    picked
+}
+
+// The transitions at the `to` end of a rule whose `from` end remains.
+fn reached(from: &[u16; 2048], to: &[u16; 2048], len: usize, alive: &[u8; 256]) -> [u8; 256]
+    requires { ⌜ Within (now from) (now to) len ⌝ }
+    ensures { λ r. ⌜ Marked (now (from .entry)) (now (to .entry)) len (now (alive .entry)) r ⌝ }
+{
+    let mut marks = [0u8; 256];
+    let mut j = 0;
+    while j < len {
+        let u = wide(from[j]);
+        let w = wide(to[j]);
+        if alive[u] == 1 {
+            marks[w] = 1;
+        }
+        j += 1;
+    }
+    marks
+}
+
+// A transition that remains, and that no remaining rule enters, or none leaves.
+fn loose(alive: u8, entered: u8, left: u8) -> bool
+    ensures { λ r. ⌜ (r ≡ true → (0 < alive) × ((entered ≡ 0) ⊎ (left ≡ 0))) ⌝ }
+{
+    if alive == 0 {
+        return false;
+    }
+    if entered == 0 {
+        return true;
+    }
+    if left == 0 {
+        return true;
+    }
+    false
+}
+
+// Strikes out each transition that no remaining rule enters, or none leaves. Tells whether one was struck.
+fn strike(n: usize, entered: &[u8; 256], left: &[u8; 256], alive: &mut [u8; 256]) -> bool
+    requires { ⌜ n ≤ 256 ⌝ }
+    ensures { λ r. ⌜ Struck (now (entered .entry)) (now (left .entry)) (now (alive .entry)) (now (alive .exit)) r ⌝ }
+{
+    let mut struck = false;
+    let mut v = 0;
+    while v < n {
+        if loose(alive[v], entered[v], left[v]) {
+            alive[v] = 0;
+            struck = true;
+        }
+        v += 1;
+    }
+    struck
+}
+
+// Strikes until nothing more can be struck. Every transition on a loop remains.
+fn peel(source: &[u16; 2048], target: &[u16; 2048], len: usize, n: usize) -> [u8; 256]
+    requires { ⌜ Within (now source) (now target) len ⌝ }
+    requires { ⌜ n ≤ 256 ⌝ }
+    ensures { λ r. ⌜ Stays (plain (now (source .entry)) (now (target .entry)) len) r ⌝ }
+{
+    let mut alive = [1u8; 256];
+    let mut struck = true;
+    while struck {
+        let entered = reached(source, target, len, &alive);
+        let left = reached(target, source, len, &alive);
+        struck = strike(n, &entered, &left, &mut alive);
+    }
+    alive
+}
+
+// How far t is from v, where d is the least number of rules, 1 or more, from t to v.
+fn away(t: usize, v: usize, d: u16) -> usize
+    ensures { λ r. ⌜ r ≡ awayFrom v t d ⌝ }
+{
+    if t == v {
+        return 0;
+    }
+    wide(d)
+}
+
+// A rule from s to t shows a shorter way from s to v.
+fn nearer(s: usize, t: usize, v: usize, dist: &mut [u16; 256]) -> bool
+    requires { ⌜ (s < 256) × (t < 256) × (getD (now dist) t 0 ≤ 512) ⌝ }
+    ensures { λ r. ⌜ Nearer v s t (now (dist .entry)) (now (dist .exit)) r ⌝ }
+{
+    let d = away(t, v, dist[t]) + 1;
+    if d < wide(dist[s]) {
+        dist[s] = narrow(d);
+        return true;
+    }
+    false
+}
+
+// The rule at turn i: the list is gone through up and down.
+fn turn(down: bool, len: usize, i: usize) -> usize
+    requires { ⌜ i < len ⌝ }
+    ensures { λ r. ⌜ (r ≡ turnOf down len i) × (r < len) ⌝ }
+{
+    if down {
+        return len - 1 - i;
+    }
+    i
+}
+
+// Every rule once. Tells whether a distance fell.
+fn sweep(
+    source: &[u16; 2048],
+    target: &[u16; 2048],
+    len: usize,
+    down: bool,
+    v: usize,
+    dist: &mut [u16; 256],
+) -> bool
+    requires { ⌜ Within (now source) (now target) len ⌝ }
+    requires { ⌜ Near (plain (now source) (now target) len) v (now dist) ⌝ }
+    ensures { λ r. ⌜ Swept (plain (now (source .entry)) (now (target .entry)) len) v (now (dist .entry)) (now (dist .exit)) r ⌝ }
+{
+    let mut fell = false;
+    let mut i = 0;
+    while i < len {
+        let j = turn(down, len, i);
+        let s = wide(source[j]);
+        let t = wide(target[j]);
+        if nearer(s, t, v, dist) {
+            fell = true;
+        }
+        i += 1;
+    }
+    fell
+}
+
+// The least number of rules, 1 or more, from each transition to v.
+fn near(source: &[u16; 2048], target: &[u16; 2048], len: usize, v: usize) -> [u16; 256]
+    requires { ⌜ Within (now source) (now target) len ⌝ }
+    ensures { λ r. ⌜ (Near (plain (now (source .entry)) (now (target .entry)) len) v r) × (Settled (plain (now (source .entry)) (now (target .entry)) len) v r) ⌝ }
+{
+    let mut dist = [512u16; 256];
+    let mut down = true;
+    let mut fell = true;
+    while fell {
+        fell = sweep(source, target, len, down, v, &mut dist);
+        down = !down;
+    }
+    dist
+}
+
+// At each transition the lowest rule that comes one nearer to v.
+fn ways(
+    source: &[u16; 2048],
+    target: &[u16; 2048],
+    len: usize,
+    v: usize,
+    dist: &[u16; 256],
+) -> [u16; 256]
+    requires { ⌜ Within (now source) (now target) len ⌝ }
+    requires { ⌜ ((x : ℕ) → getD (now dist) x 0 ≤ 512) ⌝ }
+    ensures { λ r. ⌜ Ways (plain (now (source .entry)) (now (target .entry)) len) v (now (dist .entry)) 0 r ⌝ }
+{
+    let mut next = [0u16; 256];
+    let mut j = len;
+    while 0 < j {
+        j -= 1;
+        let s = wide(source[j]);
+        let t = wide(target[j]);
+        if away(t, v, dist[t]) + 1 == wide(dist[s]) {
+            next[s] = narrow(j);
+        }
+    }
+    next
+}
+
+// The k rules of the first way from v to v, by their numbers.
+fn route(
+    target: &[u16; 2048],
+    list: &[u16; 2048],
+    v: usize,
+    k: usize,
+    next: &[u16; 256],
+) -> [u16; 256]
+    requires { ⌜ Ready (now target) (now next) v k ⌝ }
+    ensures { λ r. ⌜ take k r ≡ numbers (now (list .entry)) (followed (now (target .entry)) (now (next .entry)) v k) ⌝ }
+{
+    let mut rules = [0u16; 256];
+    let mut u = v;
+    let mut i = 0;
+    while i < k {
+        let j = wide(next[u]);
+        rules[i] = list[j];
+        u = wide(target[j]);
+        i += 1;
+    }
+    rules
+}
+
+// The first loop of the rules from source[j] to target[j], j below len; rule j goes by the number list[j].
+fn first_loop(
+    source: &[u16; 2048],
+    target: &[u16; 2048],
+    list: &[u16; 2048],
+    len: usize,
+    n: usize,
+) -> Found
+    requires { ⌜ Limits (now source) (now target) [] len n ⌝ }
+    ensures { λ r. ⌜ FoundIn (plain (now (source .entry)) (now (target .entry)) len) (now (list .entry)) n (r .len) (r .at) (r .rules) ⌝ }
+{
+    let alive = peel(source, target, len, n);
+    let mut v = 0;
+    while v < n {
+        if alive[v] == 1 {
+            let dist = near(source, target, len, v);
+            let k = wide(dist[v]);
+            if k < FAR {
+                let next = ways(source, target, len, v, &dist);
+                let rules = route(target, list, v, k, &next);
+                return Found {
+                    len: k,
+                    at: v,
+                    rules: rules,
+                };
+            }
+        }
+        v += 1;
+    }
+    Found {
+        len: 0,
+        at: 0,
+        rules: [0u16; 256],
+    }
+}
+
+// The first loop of rules of offset 0.
+pub fn zero_loop(
+    source: &[u16; 2048],
+    target: &[u16; 2048],
+    offset: &[u16; 2048],
+    m: usize,
+    n: usize,
+) -> Found
+    requires { ⌜ Limits (now source) (now target) (now offset) m n ⌝ }
+    ensures { λ r. ⌜ FoundFirst (shape (now (source .entry)) (now (target .entry)) (now (offset .entry)) m) (λ i. getD (now (offset .entry)) i 0 ≡ 0) n (r .len) (r .at) (r .rules) ⌝ }
+{
+    let kind = zero_rules(offset, m);
+    let list = kind.rules;
+    let len = kind.len;
+    let from = gather(source, &list, len);
+    let to = gather(target, &list, len);
+    first_loop(&from, &to, &list, len, n)
+}
+
+// The first loop of rules that are tight at the schedule x.
+pub fn tight_loop(
+    source: &[u16; 2048],
+    target: &[u16; 2048],
+    offset: &[u16; 2048],
+    delay: &[u32; 2048],
+    m: usize,
+    n: usize,
+    p: u64,
+    q: u64,
+    x: &[u64; 256],
+) -> Found
+    requires { ⌜ Limits (now source) (now target) (now offset) m n ⌝ }
+    requires { ⌜ Short (now delay) m ⌝ }
+    requires { ⌜ (p ≤ 256000000) × (q ≤ 3840) × ((v : ℕ) → getD (now x) v 0 ≤ 2 ^ 62) ⌝ }
+    ensures { λ r. ⌜ FoundFirst (shape (now (source .entry)) (now (target .entry)) (now (offset .entry)) m) (TightRule (shape (now (source .entry)) (now (target .entry)) (now (offset .entry)) m) (delayAt (now (delay .entry))) p q (now (x .entry))) n (r .len) (r .at) (r .rules) ⌝ }
+{
+    let kind = tight_rules(source, target, offset, delay, m, p, q, x);
+    let list = kind.rules;
+    let len = kind.len;
+    let from = gather(source, &list, len);
+    let to = gather(target, &list, len);
+    first_loop(&from, &to, &list, len, n)
+}

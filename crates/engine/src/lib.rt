@@ -1,0 +1,88 @@
+// The engine: the lap of a table, and whether a loop of it has no turn. Everything that works on columns is private.
+mod climb;
+mod columns;
+mod first;
+mod laps;
+mod scan;
+
+ghost use Rattle.engine.specs.Lap.{LapOf};
+ghost use Rattle.engine.specs.Turn.{TurnOf};
+use table::Table;
+
+// One end: its ratio in lowest terms, and its loop, the first `len` places of `rules`; the others hold 0.
+pub struct End {
+    pub p: u64,
+    pub q: u64,
+    pub len: usize,
+    pub rules: [u32; 256],
+}
+
+// Refused: number and place, and all else 0. Else both ends, whether they meet, and the schedule; past the last transition it holds 0.
+pub struct Lap {
+    pub refusal: u32,
+    pub place: usize,
+    pub exact: bool,
+    pub low: End,
+    pub high: End,
+    pub schedule: [u64; 256],
+}
+
+// The lap of a table: its two ends, their loops and the schedule at the high end; or refused 3, 5, 6 or 11, in this order.
+pub fn measure(t: Table) -> Lap
+    ensures { λ r. ⌜ LapOf t r ⌝ }
+{
+    let checked = table::check(t);
+    if 0 < checked.refusal {
+        return laps::refused(checked.refusal, checked.place);
+    }
+    let c = columns::lay(t);
+    let source = c.source;
+    let target = c.target;
+    let offset = c.offset;
+    let least = c.least;
+    let greatest = c.greatest;
+    laps::laps(
+        &source,
+        &target,
+        &offset,
+        &least,
+        &greatest,
+        c.blank,
+        t.m,
+        t.n,
+    )
+}
+
+// Refused 3 at a field outside its limits, or 5 at the lowest transition on a loop without a turn; 0 and 0 where every loop turns.
+pub struct Turned {
+    pub refusal: u32,
+    pub place: usize,
+}
+
+// Whether every loop of a table turns.
+pub fn turns(t: Table) -> Turned
+    ensures { λ r. ⌜ TurnOf t r ⌝ }
+{
+    let checked = table::check(t);
+    if 0 < checked.refusal {
+        return Turned {
+            refusal: checked.refusal,
+            place: checked.place,
+        };
+    }
+    let c = columns::lay(t);
+    let source = c.source;
+    let target = c.target;
+    let offset = c.offset;
+    let zero = first::zero_loop(&source, &target, &offset, t.m, t.n);
+    if 0 < zero.len {
+        return Turned {
+            refusal: laps::LOOP,
+            place: zero.at,
+        };
+    }
+    Turned {
+        refusal: 0,
+        place: 0,
+    }
+}
