@@ -4,11 +4,9 @@
 --   WideAt S K a        == the case of refusal 11: a sum is 2^63 or more, with every delay at its least at the low end, or at its greatest at the high end
 --   Judges t v          == v is the verdict on the table t
 --
--- Theorems: never-wide-at (refusal 11 never comes), verdict-exists, verdict-unique, refused-exactly (demand 2), narrowed (demand 3).
-use mathlib.Core.Path.{_≡_, refl, sym, ap, _∙_, subst}
-use mathlib.Core.Bool.{Bool, true, false}
-use mathlib.Core.Logic.{_⊎_, inl, inr, ⊎-elim}
-use mathlib.Core.List.{List}
+-- Theorems: never-wide-at (refusal 11 never comes), verdict-exists, verdict-unique.
+use mathlib.Core.Path.{_≡_, refl, ap}
+use mathlib.Core.Logic.{_⊎_, ⊎-elim}
 use Prim.Native.Nat.{ℕ, _+_, _*_, _≤_, _<_, _^_}
 use native.Mathlib.Omega.{arith}
 use lib.ListN.{getD}
@@ -16,14 +14,12 @@ use Rattle.model.specs.Shape.{Shape, Fits}
 use Rattle.model.specs.Loop.{SomeLoop, NoLoop, Live}
 use Rattle.model.specs.Knot.{Knot}
 use Rattle.model.specs.Filling.{Ranges, Filling}
-use Rattle.model.specs.Ends.{Narrows}
 use Rattle.model.specs.Wide.{WideSum}
 use Rattle.model.specs.Answer.{Answer, Exact, Answers}
 use Rattle.theory.specs.Filling.{Proper, ranges-proper}
 use Rattle.theory.specs.Knot.{knot-unique, knot-not-live, knot-or-live, loop-or-none}
 use Rattle.theory.specs.Answer.{answer-unique, answer-exists}
 use Rattle.theory.specs.Wide.{never-wide}
-use Rattle.theory.specs.Ends.{low-inward, high-inward, exact-stays}
 use Rattle.table.specs.declared.Table.{Table}
 use Rattle.table.specs.Limits.{maxOffset, maxDelay}
 use Rattle.table.specs.Form.{unusedRule}
@@ -108,35 +104,3 @@ verdict-unique t (found x) (knotted w) a b = absurd (knot-not-live (shapeOf t) w
 verdict-unique t (found x) flat a b = absurd (answers-loop (shapeOf t) (rangesOf t) (t .n) x (a .2) (b .2))
 verdict-unique t (found x) wide a b = absurd (never-wide-at t (b .0) (b .2 .0) (b .2 .1) (b .2 .2))
 verdict-unique t (found x) (found y) a b = ap found (answer-unique (shapeOf t) (rangesOf t) (t .n) x y (a .2) (b .2))
-
--- DEMAND 2: a list within the limits has an answer, unless a loop has no turn or no loop exists
-pub refused-exactly : (t : Table) → Within t → ((a : Answer) × Judges t (found a)) ⊎ (((u : ℕ) × Knot (shapeOf t) u) ⊎ NoLoop (shapeOf t))
-refused-exactly t w = at (verdict-exists t .0) (verdict-exists t .1)
-  where
-    at : (v : Verdict) → Judges t v → ((a : Answer) × Judges t (found a)) ⊎ (((u : ℕ) × Knot (shapeOf t) u) ⊎ NoLoop (shapeOf t))
-    at (outside k) j = absurd (within-not-bad t k w j)
-    at (knotted u) j = inr (inl (u, j .1))
-    at flat j = inr (inr (j .2))
-    at wide j = absurd (never-wide-at t (j .0) (j .2 .0) (j .2 .1) (j .2 .2))
-    at (found a) j = inl (a, j)
-
--- what filling blanks may do to a verdict: nothing to a refusal; to an answer, move its ends inward, and leave an exact one
-abbrev pub Inward : Verdict → Verdict → Type 0
-Inward (found a) (found b) =
-    (a .lowP * b .lowQ ≤ b .lowP * a .lowQ) × (b .highP * a .highQ ≤ a .highP * b .highQ)
-    × (a .exact ≡ true → (b .lowP ≡ a .lowP) × (b .lowQ ≡ a .lowQ) × (b .highP ≡ a .highP) × (b .highQ ≡ a .highQ) × (b .exact ≡ true))
-Inward (outside j) w = w ≡ outside j
-Inward (knotted u) w = w ≡ knotted u
-Inward flat w = w ≡ flat
-Inward wide w = w ≡ wide
-Inward (found a) (outside k) = ⊥
-Inward (found a) (knotted u) = ⊥
-Inward (found a) flat = ⊥
-Inward (found a) wide = ⊥
-
--- DEMAND 3, BETWEEN TWO TABLES: t′ is t with some blanks filled in range
-pub record Filled (t t′ : Table) : Type 0 where
-  pub n-same : t .n ≡ t′ .n
-  pub shape-same : shapeOf t ≡ shapeOf t′
-  pub narrows : Narrows (shapeOf t) (rangesOf t) (rangesOf t′)
-  pub within : Within t → Within t′

@@ -1,0 +1,1 @@
+// No code: the buyer's demands as theorems about the promises stand in specs/.
