@@ -136,7 +136,7 @@ module _ (t t′ : Table) (f : Filled t t′) where
 
   narrows-filled : Within t → Narrows (shapeOf t) (rangesOf t) (rangesOf t′)
   narrows-filled w r b =
-      let a = narrow-delay (ruleOf t r .delay) (ruleOf t′ r .delay) (w .delay r b) (f .rules r b .delay) in
+      let a = narrow-delay (ruleOf t r .delay) (ruleOf t′ r .delay) (w .rule r b .delay) (f .rules r b .delay) in
       let e = ap (λ (x : Rule). x .delay) (used-rule t r b) in
       let e′ = ap (λ (x : Rule). x .delay) (used-rule t′ r (omega (arith, f .m-same))) in
       rw (e, e′) a
@@ -158,9 +158,13 @@ module _ (t t′ : Table) (f : Filled t t′) where
       stays e =
           let m : (a .lowP ≡ a .highP) × (a .lowQ ≡ a .highQ) = ⊎-elim (λ k. (k .0, k .1)) (λ k. absurd (flag (sym e ∙ k .1))) (x .meet) in
           let high : HighEnd (shapeOf t) (rangesOf t) (a .lowP) (a .lowQ) = rw (m .0, m .1) (x .high) in
-          let s = exact-stays (shapeOf t) (rangesOf t) (rangesOf t′) narrows _ _ _ _ _ _ (x .low) high (y .low) (y .high) in
-          (s .0 .0, s .0 .1, s .1 .0 ∙ m .0, s .1 .1 ∙ m .1,
-            ⊎-elim (λ k. k .2) (λ k. absurd (k .0 (s .0 .0 ∙ sym (s .1 .0), s .0 .1 ∙ sym (s .1 .1)))) (y .meet))
+          let s = exact-stays (shapeOf t) (rangesOf t) (rangesOf t′) narrows _ _ _ _ _ _ (x .low) high (y .low) (y .high) in (
+            s .0 .0,
+            s .0 .1,
+            s .1 .0 ∙ m .0,
+            s .1 .1 ∙ m .1,
+            ⊎-elim (λ k. k .2) (λ k. absurd (k .0 (s .0 .0 ∙ sym (s .1 .0), s .0 .1 ∙ sym (s .1 .1)))) (y .meet),
+          )
         where
           flag : true ≡ false → ⊥
           flag z = let c : _≡_ {A = ℕ} 0 1 = cc in omega arith

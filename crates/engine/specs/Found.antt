@@ -1,11 +1,16 @@
 -- What the search for the first loop of a kind promises.
 --
 --   FoundFirst S A n len at rules   == the first loop of the kind A, read from transition at, is the first len rules; len is 0 where there is none
+--   numbers list js                 == the numbers of the rules at the places js of the list
 --   Routed                          == the rules written so far, and those still to be followed, are the whole walk
---   route-step, route-ends          one step of the loop that writes them
---   FoundIn T list n len at rules   == the same of the listed rules alone, each written by its number in the list
---   found-here, found-kind
-use mathlib.Core.Path.{_≡_, refl, sym, ap, _∙_, subst}
+--   route-step, route-ends          the loop that writes them
+--   Looped, FoundIn T list n len at rules   == the same of the listed rules alone, each written by its number in the list
+--   NoneBelow T v                   == no loop starts below v
+--   none-struck, none-far           nor at v, where v was struck or no walk comes back to it
+--   Ready, ready                    == what is asked before a walk is followed, and that it holds
+--   found-here, found-none          a loop was found; none was
+--   found-kind                      the first loop of the listed rules is the first of their kind
+use mathlib.Core.Path.{_≡_, refl, sym, _∙_, subst}
 use mathlib.Core.Logic.{by-cases, _≢_}
 use mathlib.Core.List.{List, [], _∷_, _++_, map, append-assoc, append-nil}
 use Prim.Native.Nat.{ℕ, zero, suc, _+_, _-_, _≤_, _<_}
@@ -25,6 +30,7 @@ use Rattle.engine.specs.Listed.{Listed, Gathered, plain, picks, limits-w
 use Rattle.engine.specs.Near.{Near, Settled, Ways, near-least, near-short, followed, followed-first, Steps}
 use Rattle.engine.specs.Peel.{Stays}
 
+-- the first loop of the kind A has len rules, those that stand first, and is read from at; there is none where len is 0
 pub record FoundFirst (S : Shape) (A : ℕ → Type 0) (n len at : ℕ) (rules : List ℕ) : Type 0 where
   pub short : len ≤ n
   pub at-below : at < n
@@ -35,6 +41,7 @@ pub record FoundFirst (S : Shape) (A : ℕ → Type 0) (n len at : ℕ) (rules :
 abbrev pub numbers : List ℕ → List ℕ → List ℕ
 numbers list js = map (λ j. getD list j 0) js
 
+-- the rules written so far and those still to be followed are the whole walk
 abbrev pub Routed : List ℕ → List ℕ → List ℕ → ℕ → ℕ → ℕ → ℕ → List ℕ → Type 0
 Routed target list next v k i u rules = take i rules ++ numbers list (followed target next u (k - i)) ≡ numbers list (followed target next v k)
 
@@ -61,6 +68,7 @@ pub record Looped (T : Shape) (list : List ℕ) (len at : ℕ) (rules : List ℕ
   pub first : FirstLoop T Any at places
   pub names : take len rules ≡ numbers list places
 
+-- the same of the listed rules alone
 pub record FoundIn (T : Shape) (list : List ℕ) (n len at : ℕ) (rules : List ℕ) : Type 0 where
   pub short : len ≤ n
   pub at-below : at < n

@@ -155,8 +155,8 @@ module _ (t : Table) (w : Within t) (s g o l h : List ℕ) (b : Bool) (c : Laid 
         few-rules = w .m-high;
         some-transition = w .n-low;
         few-transitions = w .n-high;
-        fits = λ r d. (omega (arith, c .sources .filled r d, w .source r d), omega (arith, c .targets .filled r d, w .target r d));
-        small-offsets = λ r d. omega (arith, c .offsets .filled r d, w .offset r d);
+        fits = λ r d. (omega (arith, c .sources .filled r d, w .rule r d .source), omega (arith, c .targets .filled r d, w .rule r d .target));
+        small-offsets = λ r d. omega (arith, c .offsets .filled r d, w .rule r d .offset);
       }
 
   pub laid-ordered : Ordered l h (t .m) b

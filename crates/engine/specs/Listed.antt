@@ -1,13 +1,15 @@
 -- The rules of a kind, listed by number, and the columns of the listed rules only.
 --
 --   Listed A list len m            == the first len places of the list hold the rules below m of the kind A, lowest first
+--   listed-none, listed-add, listed-skip   the loop that lists them
+--   listed-few                     every listed number is the number of a rule of the columns
 --   Gathered column list len xs    == place j of xs holds the column's entry for rule j of the list
---   listed-none, listed-add, listed-skip, gathered-add   one step of the loops that make them
+--   gathered-add                   the loop that gathers them
 --   plain source target len        == the shape that two columns say, whose offsets nobody asks for
 --   picks                          gathered columns say the shape of the listed rules
 --   Within from to len             == the two ends of every rule are below 256
---   limits-picked, limits-within   the limits of the whole list hold for the listed rules
-use mathlib.Core.Path.{_≡_, refl, sym, ap, _∙_}
+--   limits-picked, limits-within, within-back, limits-most   what the limits of the whole list give
+use mathlib.Core.Path.{_≡_, sym, _∙_}
 use mathlib.Core.Logic.{by-cases}
 use mathlib.Core.List.{List, []}
 use Prim.Native.Nat.{ℕ, _+_, _≤_, _<_}
@@ -19,6 +21,7 @@ use Rattle.model.specs.Shape.{Shape}
 use Rattle.theory.specs.Near.{Picks}
 use Rattle.engine.specs.Columns.{shape, Limits}
 
+-- the first len places hold the rules below m of the kind A, lowest first
 pub record Listed (A : ℕ → Type 0) (list : List ℕ) (len m : ℕ) : Type 0 where
   pub few : len ≤ m
   pub below : (j : ℕ) → j < len → getD list j 0 < m
@@ -69,6 +72,7 @@ module _ (A : ℕ → Type 0) (list : List ℕ) where
 pub listed-few : (A : ℕ → Type 0) (list : List ℕ) (len m : ℕ) → Listed A list len m → m ≤ 2048 → (len ≤ 2048) × ((j : ℕ) → j < len → getD list j 0 < 2048)
 listed-few A list len m h b = (omega (arith, h .few), λ j l. omega (arith, h .below j l))
 
+-- place j of xs holds the column's entry for rule j of the list
 abbrev pub Gathered : List ℕ → List ℕ → ℕ → List ℕ → Type 0
 Gathered column list len xs = (j : ℕ) → j < len → getD xs j 0 ≡ getD column (getD list j 0) 0
 
@@ -78,6 +82,7 @@ gathered-add column list xs j x g room e i l =
     (λ s. rw (s, getD-set-same xs j x 0 room) e)
     (λ d. getD-set-other xs j i x 0 d ∙ g i (omega arith))
 
+-- the shape that two columns say, whose offsets nobody asks for
 abbrev pub plain : List ℕ → List ℕ → ℕ → Shape
 plain source target len = shape source target [] len
 
@@ -95,6 +100,7 @@ module _ (source target offset list from to : List ℕ) (m len : ℕ) (gf : Gath
         small-offsets = λ r b. omega arith;
       }
 
+-- there is room for the rules, and their two ends are below 256
 pub record Within (from to : List ℕ) (len : ℕ) : Type 0 where
   pub few : len ≤ 2048
   pub from-below : (j : ℕ) → j < len → getD from j 0 < 256

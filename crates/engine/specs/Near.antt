@@ -1,19 +1,20 @@
 -- How far each transition is from v: the least number of rules, 1 or more, on a walk from it to v. 512 where there is none.
 --
---   awayFrom v t d       == 0 where t is v, else d
---   Way S v x k          == a walk of k rules, not empty, from x to v
---   Near S v d           == every distance of d is that of a walk
---   Calm S v d r         == rule r shows no shorter walk from its source
---   Settled S v d        == no rule does
---   near-least           no walk is then shorter than d says
---   Nearer, Sweeping, Swept   what one rule, the first rules and a sweep over all of them do
---   turnOf down len i    == the rule at turn i, when the rules are gone through up or down
---   Leads S v d r        == rule r comes one nearer to v
---   Chosen, Ways         == next holds at each transition the lowest such rule
---   followed             == the k rules met from u on by always taking the rule that next holds
---   followed-first       those are the first shortest walk
+--   awayFrom v t d, far v d t   == 0 where t is v, else t's distance
+--   Way S v x k                 == a walk of k rules, not empty, from x to v
+--   Near S v d                  == every distance of d is that of a walk
+--   Calm S v d r, Settled S v d == rule r shows no shorter walk from its source; no rule does
+--   near-least, near-short      then no walk is shorter than d says, and a closed one has at most n rules
+--   Nearer, Sweeping, Swept     == what one rule, the first rules and a sweep over all of them do
+--   turnOf down len i           == the rule at turn i, when the rules are gone through up or down
+--   sweep-starts, sweep-turn, sweep-ends   the loop over the rules
+--   Leads S v d r               == rule r comes one nearer to v
+--   Chosen, Ways S v d j next   == next holds, of the rules from j on, the lowest such rule from each transition
+--   ways-none, ways-passed, ways-led       the loop that makes it
+--   followed target next u k    == the k rules met from u on by always taking the rule that next holds
+--   followed-first              those are the first shortest walk
 use mathlib.Core.Path.{_≡_, refl, sym, ap, _∙_, subst}
-use mathlib.Core.Logic.{_⊎_, inl, inr, ⊎-elim, by-cases, ite, if-pos, if-neg, _≢_}
+use mathlib.Core.Logic.{by-cases, ite, if-pos, if-neg, _≢_}
 use mathlib.Core.Bool.{Bool, true, false}
 use mathlib.Core.List.{List, [], _∷_}
 use Prim.Native.Nat.{ℕ, zero, suc, _+_, _-_, _≤_, _<_}
@@ -23,11 +24,11 @@ use lib.ListN.{length, getD, set, replicate, getD-replicate, length-set}
 use lib.Seq.{getD-set-same, getD-set-other}
 use Rattle.model.specs.Shape.{Shape, Fits}
 use Rattle.model.specs.Walk.{Walk}
-use Rattle.model.specs.Reported.{NotAfter}
 use Rattle.theory.specs.Near.{FirstWalk, walk-first, closed-short}
 use Rattle.engine.specs.Listed.{plain, Within}
 use Rattle.engine.specs.Sum.{inside, not-both, Fell, fell-none, fell-set}
 
+-- how far t is from v, where the least number of rules, 1 or more, from t to v is d
 unfoldable pub awayFrom : ℕ → ℕ → ℕ → ℕ
 awayFrom v t d = ite (ℕ-discrete t v) 0 d
 
@@ -42,22 +43,27 @@ away-other v t d n = if-neg (ℕ-discrete t v) n 0 d
 pub away-most : (v t d : ℕ) → awayFrom v t d ≤ d
 away-most v t d = by-cases (ℕ-discrete t v) (λ e. omega (arith, away-home v t d e)) (λ n. omega (arith, away-other v t d n))
 
+-- the same, read from the distances d
 abbrev pub far : ℕ → List ℕ → ℕ → ℕ
 far v d t = awayFrom v t (getD d t 0)
 
+-- a walk of k rules, not empty, from x to v
 pub record Way (S : Shape) (v x k : ℕ) : Type 0 where
   pub walk : List ℕ
   pub size : length walk ≡ k
   pub some-rule : 0 < k
   pub walks : Walk S x v walk
 
+-- every distance below 512 is that of a walk
 pub record Near (S : Shape) (v : ℕ) (d : List ℕ) : Type 0 where
   pub low : (x : ℕ) → getD d x 0 ≤ 512
   pub attained : (x : ℕ) → x < 256 → getD d x 0 < 512 → Way S v x (getD d x 0)
 
+-- rule r shows no shorter walk from its source
 abbrev pub Calm : Shape → ℕ → List ℕ → ℕ → Type 0
 Calm S v d r = getD d (S.source r) 0 ≤ far v d (S.target r) + 1
 
+-- no rule does
 abbrev pub Settled : Shape → ℕ → List ℕ → Type 0
 Settled S v d = (r : ℕ) → r < S.rules → Calm S v d r
 
@@ -77,6 +83,7 @@ low-far zero x = omega arith
 low-far (suc k) zero = omega arith
 low-far (suc k) (suc x) = low-far k x
 
+-- at first no walk is known
 pub near-none : (S : Shape) (v : ℕ) → Near S v (replicate 256 512)
 near-none S v = record { low = low-far 256; attained = λ x b l. absurd (omega (arith, getD-replicate {A = ℕ} 256 x 512 0 b)) }
 
@@ -105,7 +112,7 @@ module _ (S : Shape) (v : ℕ) (d : List ℕ) where
     same : getD next (S.source r) 0 ≡ far v d (S.target r) + 1
     same = getD-set-same d (S.source r) (far v d (S.target r) + 1) 0 (inside d (S.source r) (omega arith))
 
-    pub near-set : Near S v next
+    near-set : Near S v next
     near-set =
         record {
           low = λ x. by-cases (ℕ-discrete x (S.source r))
@@ -116,23 +123,22 @@ module _ (S : Shape) (v : ℕ) (d : List ℕ) where
               (λ n. let o = getD-set-other d (S.source r) x (far v d (S.target r) + 1) 0 n in rw o (near .attained x b (rw o at l)));
         }
 
+-- the rule at turn i, when len rules are gone through up or down
 abbrev pub turnOf : Bool → ℕ → ℕ → ℕ
 turnOf true len i = len - 1 - i
 turnOf false len i = i
-
-pub turn-below : (down : Bool) (len i : ℕ) → i < len → turnOf down len i < len
-turn-below true len i l = omega arith
-turn-below false len i l = l
 
 turn-all : (down : Bool) (len r : ℕ) → r < len → (k : ℕ) × (k < len) × (turnOf down len k ≡ r)
 turn-all true len r l = (len - 1 - r, omega arith, omega arith)
 turn-all false len r l = (r, l, refl)
 
+-- after i turns of a sweep: a distance fell (f), or none of the rules looked at shows a shorter walk
 pub record Sweeping (S : Shape) (v : ℕ) (down : Bool) (i : ℕ) (d₀ d : List ℕ) (f : Bool) : Type 0 where
   pub near : Near S v d
   pub fell : Fell d₀ d f
   pub calm : f ≡ false → (k : ℕ) → k < i → Calm S v d (turnOf down (S.rules) k)
 
+-- after all of them
 pub record Swept (S : Shape) (v : ℕ) (d₀ d : List ℕ) (f : Bool) : Type 0 where
   pub near : Near S v d
   pub fell : Fell d₀ d f
@@ -186,6 +192,7 @@ near-short S n v d fits near s b l = let w = near .attained v b l in short (getD
     short zero e w = omega arith
     short (suc k) e w = omega (arith, closed-short S n fits v k (w .walk) (λ qs some h. omega (arith, near-least S v d s v qs some h)) (w .size ∙ sym e) (w .walks))
 
+-- rule r comes one nearer to v
 abbrev pub Leads : Shape → ℕ → List ℕ → ℕ → Type 0
 Leads S v d r = far v d (S.target r) + 1 ≡ getD d (S.source r) 0
 
@@ -208,7 +215,7 @@ module _ (S : Shape) (v : ℕ) (d : List ℕ) where
   low-none (suc k) zero b l = l
   low-none (suc k) (suc x) b l = low-none k x b l
 
-  pub ways-none : Ways S v d (S.rules) (replicate 256 0)
+  pub ways-none : Ways S v d (S.rules - 0) (replicate 256 0)
   ways-none = record { room = refl; below = λ l x. low-none 256 x (S.rules) l; chosen = λ i a b. absurd (omega arith) }
 
   module _ (j : ℕ) (next : List ℕ) (h : Ways S v d (suc j) next) (is-rule : j < S.rules) where
@@ -237,16 +244,19 @@ module _ (S : Shape) (v : ℕ) (d : List ℕ) where
               later : (i : ℕ) → j ≤ i → S.source i ≢ S.source j → suc j ≤ i
               later i a n = by-cases (ℕ-discrete i j) (λ e. absurd (n (ap (S.source) e))) (λ m. omega arith)
 
-  -- one turn of the loop, which goes down
-  module _ (j s t : ℕ) (next : List ℕ) (h : Ways S v d j next) (some : 0 < j) (is-rule : j ≤ S.rules) (es : s ≡ S.source (j - 1)) (et : t ≡ S.target (j - 1)) where
-    last : Ways S v d (suc (j - 1)) next
-    last = let e : suc (j - 1) ≡ j = omega arith in rw e h
+  -- one turn of the loop, which goes down: at turn i comes rule j, the last of those not looked at
+  module _ (i j s t : ℕ) (next : List ℕ) (h : Ways S v d (S.rules - i) next) (more : i < S.rules) (turn : j ≡ turnOf true (S.rules) i) (es : s ≡ S.source j) (et : t ≡ S.target j) where
+    last : Ways S v d (suc j) next
+    last = let e : suc j ≡ S.rules - i = omega arith in rw e h
 
-    pub ways-passed : ¬ (far v d t + 1 ≡ getD d s 0) → Ways S v d (j - 1) next
-    ways-passed n = ways-skip (j - 1) next last (omega arith) (rw (es, et) at n)
+    down : {xs : List ℕ} → Ways S v d j xs → Ways S v d (S.rules - (i + 1)) xs
+    down w = let e : S.rules - (i + 1) ≡ j = omega arith in rw e w
 
-    pub ways-led : (x : ℕ) → x ≡ j - 1 → s < 256 → far v d t + 1 ≡ getD d s 0 → Ways S v d (j - 1) (set next s x)
-    ways-led x ex b l = rw (ex, es) (ways-set (j - 1) next last (omega arith) (rw es at b) (rw (es, et) at l))
+    pub ways-passed : ¬ (far v d t + 1 ≡ getD d s 0) → Ways S v d (S.rules - (i + 1)) next
+    ways-passed n = down (ways-skip j next last (omega arith) (rw (es, et) at n))
+
+    pub ways-led : (x : ℕ) → x ≡ j → s < 256 → far v d t + 1 ≡ getD d s 0 → Ways S v d (S.rules - (i + 1)) (set next s x)
+    ways-led x ex b l = rw (ex, es) (down (ways-set j next last (omega arith) (rw es at b) (rw (es, et) at l)))
 
 -- the k rules met from u on
 unfoldable pub followed : List ℕ → List ℕ → ℕ → ℕ → List ℕ

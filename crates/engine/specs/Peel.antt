@@ -1,7 +1,7 @@
 -- Striking out transitions that no remaining rule enters, or none leaves.
 --
 --   Marked from to len alive marks      == a rule whose `from` end remains marks its `to` end
---   marked-none, marked-add, marked-skip    one step of the loop that makes the marks
+--   marked-add, marked-skip             one step of the loop that makes the marks
 --   Struck entered left alive₀ alive f  == a transition that is entered and left remains; one was struck (f), or nothing changed
 --   struck-none, struck-one             one step of the loop that strikes
 --   Stays S alive                       == every transition on a closed walk remains
@@ -20,13 +20,11 @@ use Rattle.theory.specs.Near.{Closed, closed-leaves, closed-enters}
 use Rattle.engine.specs.Listed.{plain, Within}
 use Rattle.engine.specs.Sum.{Fell, fell-none, fell-set}
 
+-- a rule whose `from` end remains marks its `to` end
 abbrev pub Marked : List ℕ → List ℕ → ℕ → List ℕ → List ℕ → Type 0
 Marked from to len alive marks = (j : ℕ) → j < len → getD alive (getD from j 0) 0 ≡ 1 → getD marks (getD to j 0) 0 ≡ 1
 
 module _ (from to alive marks : List ℕ) where
-  pub marked-none : Marked from to 0 alive marks
-  marked-none j l a = absurd (omega arith)
-
   pub marked-add : (j w : ℕ) → Marked from to j alive marks → w ≡ getD to j 0 → w < length marks → Marked from to (j + 1) alive (set marks w 1)
   marked-add j w h e room i l a =
       by-cases (ℕ-discrete (getD to i 0) w)
@@ -39,6 +37,7 @@ module _ (from to alive marks : List ℕ) where
   pub marked-skip : (j : ℕ) → Marked from to j alive marks → getD alive (getD from j 0) 0 ≢ 1 → Marked from to (j + 1) alive marks
   marked-skip j h n i l a = by-cases (ℕ-discrete i j) (λ e. absurd (n (rw e at a))) (λ d. h i (omega arith) a)
 
+-- a transition that is entered and left remains; one was struck (f), or nothing changed
 pub record Struck (entered left alive₀ alive : List ℕ) (f : Bool) : Type 0 where
   pub remains : (v : ℕ) → getD alive₀ v 0 ≡ 1 → getD entered v 0 ≡ 1 → getD left v 0 ≡ 1 → getD alive v 0 ≡ 1
   pub fell : Fell alive₀ alive f
@@ -57,6 +56,7 @@ struck-one entered left alive₀ alive f v h b some loose =
     another : (w : ℕ) → getD entered w 0 ≡ 1 → getD left w 0 ≡ 1 → w ≢ v
     another w e l s = ⊎-elim (λ z. omega (arith, ap (λ x. getD entered x 0) s)) (λ z. omega (arith, ap (λ x. getD left x 0) s)) loose
 
+-- every transition on a closed walk remains
 abbrev pub Stays : Shape → List ℕ → Type 0
 Stays S alive = (u : ℕ) → Closed S u → getD alive u 0 ≡ 1
 

@@ -16,6 +16,7 @@ use native.Mathlib.Decide.{ℕ-discrete, decLe}
 use lib.ListN.{length, getD, set, List·getD-eq-default}
 use lib.Seq.{getD-set-same, getD-set-other}
 
+-- the sum of the first k numbers
 unfoldable pub total : ℕ → List ℕ → ℕ
 total zero xs = 0
 total (suc k) xs = total k xs + getD xs k 0
@@ -41,6 +42,7 @@ total-falls (suc k) xs i x h l =
 pub not-both : (f : Bool) → f ≡ true → f ≡ false → ⊥
 not-both f a b = let z : _≡_ {A = ℕ} 0 1 = cc in omega arith
 
+-- one of the numbers xs fell, and they are ys now (f); or nothing changed
 pub record Fell (xs ys : List ℕ) (f : Bool) : Type 0 where
   pub lower : f ≡ true → total 256 ys < total 256 xs
   pub kept : f ≡ false → ys ≡ xs
@@ -48,6 +50,7 @@ pub record Fell (xs ys : List ℕ) (f : Bool) : Type 0 where
 pub fell-none : (xs : List ℕ) → Fell xs xs false
 fell-none xs = record { lower = λ t. absurd (not-both false t refl); kept = λ t. refl }
 
+-- 1 where f is true, else 0
 abbrev pub oneIf : Bool → ℕ
 oneIf true = 1
 oneIf false = 0

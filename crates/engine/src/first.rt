@@ -279,7 +279,7 @@ fn near(source: &[u16; 2048], target: &[u16; 2048], len: usize, v: usize) -> [u1
     dist
 }
 
-// At each transition the lowest rule that comes one nearer to v.
+// At each transition the lowest rule that comes one nearer to v: the last found, from the last rule down.
 fn ways(
     source: &[u16; 2048],
     target: &[u16; 2048],
@@ -292,14 +292,15 @@ fn ways(
     ensures { λ r. ⌜ Ways (plain (now (source .entry)) (now (target .entry)) len) v (now (dist .entry)) 0 r ⌝ }
 {
     let mut next = [0u16; 256];
-    let mut j = len;
-    while 0 < j {
-        j -= 1;
+    let mut i = 0;
+    while i < len {
+        let j = turn(true, len, i);
         let s = wide(source[j]);
         let t = wide(target[j]);
         if away(t, v, dist[t]) + 1 == wide(dist[s]) {
             next[s] = narrow(j);
         }
+        i += 1;
     }
     next
 }
@@ -339,22 +340,22 @@ fn first_loop(
     ensures { λ r. ⌜ FoundIn (plain (now (source .entry)) (now (target .entry)) len) (now (list .entry)) n (r .len) (r .at) (r .rules) ⌝ }
 {
     let alive = peel(source, target, len, n);
-    let mut v = 0;
-    while v < n {
-        if alive[v] == 1 {
-            let dist = near(source, target, len, v);
-            let k = wide(dist[v]);
+    let mut at = 0;
+    while at < n {
+        if alive[at] == 1 {
+            let dist = near(source, target, len, at);
+            let k = wide(dist[at]);
             if k < FAR {
-                let next = ways(source, target, len, v, &dist);
-                let rules = route(target, list, v, k, &next);
+                let next = ways(source, target, len, at, &dist);
+                let rules = route(target, list, at, k, &next);
                 return Found {
                     len: k,
-                    at: v,
+                    at: at,
                     rules: rules,
                 };
             }
         }
-        v += 1;
+        at += 1;
     }
     Found {
         len: 0,

@@ -4,6 +4,7 @@
 --   RuleOk n x j     field j of the rule x is within its limits: 0 source, 1 target, 2 offset, 3 delay
 --   Ok t k           field k of t is within its limits: 0 n, 1 m, 2 + 4r to 5 + 4r the four of rule r
 --   fields t         how many fields t has: two, and four for each rule
+--   RuleWithin n x   every field of the rule x is within its limits
 --   Within t         every field of t is within its limits
 --   FirstBad t k     k is the first field of t that is not
 --   FirstIn n x j    j is the first field of the rule x that is not, or 4
@@ -12,11 +13,10 @@
 -- Theorems: within-ok and ok-within (Within is Ok of every field), first-bad-unique, within-or-first-bad (decidable), judged-unique (a single outcome).
 use Prim.{Unit, tt}
 use mathlib.Core.Logic.{_⊎_, inl, inr, ⊎-elim, by-cases, Dec·and}
-use mathlib.Core.Path.{_≡_, refl, ap, sym, _∙_, subst}
+use mathlib.Core.Path.{_≡_, ap, sym, _∙_, subst}
 use Prim.Native.Nat.{ℕ, zero, suc, _+_, _-_, _*_, _/_, _%_, _≤_, _<_}
 use native.Mathlib.Omega.{arith}
 use native.Mathlib.Decide.{ℕ-discrete, decLt, decLe}
-use native.Mathlib.Nat.{mod-lt, div-add-mod'}
 use Rattle.table.specs.Limits.{minN, maxN, maxM, maxOffset, maxDelay}
 use Rattle.table.specs.Form.{ruleOf}
 use Rattle.table.specs.declared.Delay.{Delay}
@@ -47,15 +47,19 @@ Ok t (suc (suc k)) = RuleOk (t .n) (ruleOf t (k / 4)) (k % 4)
 abbrev pub fields : Table → ℕ
 fields t = 2 + 4 * t .m
 
--- t is within its limits
+-- a rule of a table with n transitions is within its limits
+pub record RuleWithin (n : ℕ) (x : Rule) : Type 0 where
+  pub source : x .source < n
+  pub target : x .target < n
+  pub offset : x .offset ≤ maxOffset
+  pub delay : DelayOk (x .delay)
+
+-- t is within its limits, with each of its m rules
 pub record Within (t : Table) : Type 0 where
   pub n-low : minN ≤ t .n
   pub n-high : t .n ≤ maxN
   pub m-high : t .m ≤ maxM
-  pub source : (r : ℕ) → r < t .m → ruleOf t r .source < t .n
-  pub target : (r : ℕ) → r < t .m → ruleOf t r .target < t .n
-  pub offset : (r : ℕ) → r < t .m → ruleOf t r .offset ≤ maxOffset
-  pub delay : (r : ℕ) → r < t .m → DelayOk (ruleOf t r .delay)
+  pub rule : (r : ℕ) → r < t .m → RuleWithin (t .n) (ruleOf t r)
 
 -- k is the first field of t outside its limits
 pub record FirstBad (t : Table) (k : ℕ) : Type 0 where
@@ -116,11 +120,11 @@ upto-3 n x s (suc zero) h = s .1
 upto-3 n x s (suc (suc zero)) h = s .2
 upto-3 n x s (suc (suc (suc i))) h = absurd (omega arith)
 
-upto-4 : (n : ℕ) (x : Rule) → (x .source < n) × (x .target < n) × (x .offset ≤ maxOffset) → DelayOk (x .delay) → (i : ℕ) → RuleOk n x i
-upto-4 n x s d zero = s .0
-upto-4 n x s d (suc zero) = s .1
-upto-4 n x s d (suc (suc zero)) = s .2
-upto-4 n x s d (suc (suc (suc i))) = d
+upto-4 : (n : ℕ) (x : Rule) → RuleWithin n x → (i : ℕ) → RuleOk n x i
+upto-4 n x w zero = w .source
+upto-4 n x w (suc zero) = w .target
+upto-4 n x w (suc (suc zero)) = w .offset
+upto-4 n x w (suc (suc (suc i))) = w .delay
 
 -- a delay within its limits, from what a match says
 pub known-ok : {x : Delay} (d : ℕ) → x ≡ Known d → d ≤ maxDelay → DelayOk x
@@ -147,7 +151,7 @@ module _ (n : ℕ) (x : Rule) where
       late o = omega arith
 
   pub first-none : (x .source < n) × (x .target < n) × (x .offset ≤ maxOffset) → DelayOk (x .delay) → FirstIn n x 4
-  first-none h d = record { counted = omega arith; bad = λ g. absurd (omega arith); before = λ i _. upto-4 n x h d i }
+  first-none h d = record { counted = omega arith; bad = λ g. absurd (omega arith); before = λ i _. upto-4 n x (record { source = h .0; target = h .1; offset = h .2; delay = d }) i }
 
 -- Laws of the check --------------------------------------------------------------------------------------------------------
 
@@ -196,20 +200,19 @@ ok-within t all = record {
   n-low = all 0 (omega arith) .0;
   n-high = all 0 (omega arith) .1;
   m-high = all 1 (omega arith);
-  source = λ r h. field-rule t r 0 (omega arith) (all (2 + 4 * r + 0) (omega arith));
-  target = λ r h. field-rule t r 1 (omega arith) (all (2 + 4 * r + 1) (omega arith));
-  offset = λ r h. field-rule t r 2 (omega arith) (all (2 + 4 * r + 2) (omega arith));
-  delay = λ r h. field-rule t r 3 (omega arith) (all (2 + 4 * r + 3) (omega arith));
+  rule = λ r h. record {
+    source = field-rule t r 0 (omega arith) (all (2 + 4 * r + 0) (omega arith));
+    target = field-rule t r 1 (omega arith) (all (2 + 4 * r + 1) (omega arith));
+    offset = field-rule t r 2 (omega arith) (all (2 + 4 * r + 2) (omega arith));
+    delay = field-rule t r 3 (omega arith) (all (2 + 4 * r + 3) (omega arith));
+  };
 }
 
 -- WITHIN IS EVERY FIELD OK
 pub within-ok : (t : Table) → Within t → (k : ℕ) → k < fields t → Ok t k
 within-ok t w zero h = (w .n-low, w .n-high)
 within-ok t w (suc zero) h = w .m-high
-within-ok t w (suc (suc k)) h = upto-4 (t .n) (ruleOf t (k / 4)) (w .source _ r, w .target _ r, w .offset _ r) (w .delay _ r) (k % 4)
-  where
-    r : k / 4 < t .m
-    r = omega arith
+within-ok t w (suc (suc k)) h = upto-4 (t .n) (ruleOf t (k / 4)) (w .rule (k / 4) (omega arith)) (k % 4)
 
 pub within-not-bad : (t : Table) (k : ℕ) → Within t → FirstBad t k → ⊥
 within-not-bad t k w b = b .bad (within-ok t w k (b .counted))

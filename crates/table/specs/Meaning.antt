@@ -67,13 +67,13 @@ used-same t t′ e u = (
 
 module _ (t : Table) (w : Within t) where
   pub within-fits : Fits (shapeOf t) (t .n)
-  within-fits r b = (subst (λ (x : Rule). x .source < t .n) (sym (used-rule t r b)) (w .source r b), subst (λ (x : Rule). x .target < t .n) (sym (used-rule t r b)) (w .target r b))
+  within-fits r b = (subst (λ (x : Rule). x .source < t .n) (sym (used-rule t r b)) (w .rule r b .source), subst (λ (x : Rule). x .target < t .n) (sym (used-rule t r b)) (w .rule r b .target))
 
   pub within-offsets : (r : ℕ) → r < t .m → shapeOf t .offset r ≤ maxOffset
-  within-offsets r b = subst (λ (x : Rule). x .offset ≤ maxOffset) (sym (used-rule t r b)) (w .offset r b)
+  within-offsets r b = subst (λ (x : Rule). x .offset ≤ maxOffset) (sym (used-rule t r b)) (w .rule r b .offset)
 
   pub within-delays : (r : ℕ) → r < t .m → rangesOf t .greatest r ≤ maxDelay
-  within-delays r b = at (getD (used t) r unusedRule .delay) (subst (λ (x : Rule). DelayOk (x .delay)) (sym (used-rule t r b)) (w .delay r b))
+  within-delays r b = at (getD (used t) r unusedRule .delay) (subst (λ (x : Rule). DelayOk (x .delay)) (sym (used-rule t r b)) (w .rule r b .delay))
     where
       at : (d : Delay) → DelayOk d → greatestOf maxDelay (delayOf d) ≤ maxDelay
       at Unknown h = le-refl maxDelay

@@ -14,7 +14,7 @@ use mathlib.Core.List.{List, [], _∷_, _++_, map}
 use Prim.Native.Nat.{ℕ, suc, _≤_, _<_}
 use native.Mathlib.Omega.{arith}
 use native.Mathlib.Nat.{suc-inj}
-use native.Mathlib.Decide.{ℕ-discrete, decLt}
+use native.Mathlib.Decide.{decLt}
 use lib.ListN.{length, length-append, length-map}
 use Rattle.model.specs.Shape.{Shape, Fits}
 use Rattle.model.specs.Distinct.{Distinct}
@@ -22,7 +22,7 @@ use Rattle.model.specs.Walk.{Walk, sources}
 use Rattle.model.specs.Loop.{Loop}
 use Rattle.model.specs.Reported.{NotAfter}
 use Rattle.theory.specs.Sums.{All}
-use Rattle.theory.specs.Walk.{walk-append, Last, walk-last}
+use Rattle.theory.specs.Walk.{walk-append, walk-last}
 use Rattle.theory.specs.Loop.{loop-short}
 use Rattle.theory.specs.First.{shortest-loop, KindLoop, FirstLoop, route-loop}
 
@@ -48,7 +48,7 @@ walk-first S v k x r rs b e w lowest = record { size = ap suc (w .size); walks =
 abbrev pub Any : ℕ → Type 0
 Any r = Unit {0}
 
-pub all-any : (rs : List ℕ) → All Any rs
+all-any : (rs : List ℕ) → All Any rs
 all-any [] = tt
 all-any (r ∷ rs) = (tt, all-any rs)
 

@@ -1,1 +1,1 @@
-// No code: the laps worked by hand, P1 to P10, stand in specs/.
+// No code: the table of all that was worked by hand, P1 to P10, stands in specs/.

@@ -4,14 +4,11 @@ use mathlib.Core.Logic.{inl, inr}
 use mathlib.Core.Path.{_≡_, refl, subst}
 use Prim.Native.Nat.{ℕ, _+_, _*_, _-_, _≤_, _<_}
 use native.Mathlib.Omega.{arith}
-use Rattle.table.specs.Limits.{minN, maxN, maxM}
+use Rattle.table.specs.Limits.{maxM}
 use Rattle.table.specs.Form.{ruleOf}
 use Rattle.table.specs.Fields.{Ok, FirstIn, two-fields, fields-more, found-bad, bad-n, bad-m, ok-within}
 use Rattle.table.proofs.check.Statement.{statement}
 use Rattle.table.proofs.check.Tie as tie
-use Rattle.table.proofs.check.Reads as reads
-use Rattle.table.proofs.check.Lts as lts
-use Rattle.table.proofs.first_in.Reads as first-in-reads
 
 abbrev Inv-loop : tie.InvT-loop
 Inv-loop t n m r₀ r = (r ≤ m) × (m ≤ maxM) × (n ≡ t .n) × (m ≡ t .m) × ((k : ℕ) → k < 2 + 4 * r → Ok t k)

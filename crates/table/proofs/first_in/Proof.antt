@@ -4,9 +4,6 @@ use borrow.Author.Needs.{needs}
 use Rattle.table.specs.Fields.{first-source, first-target, first-offset, first-delay, first-none, known-ok, unknown-ok}
 use Rattle.table.proofs.first_in.Statement.{statement}
 use Rattle.table.proofs.first_in.Tie as tie
-use Rattle.table.proofs.first_in.Reads as reads
-use Rattle.table.proofs.first_in.Lts as lts
-use Rattle.table.proofs.wide.Reads as wide-reads
 
 wide-requires : tie.Need-wide-requires
 wide-requires c κs = search needs

@@ -1,15 +1,13 @@
-use Prim.Native.Nat.{ℕ, suc, _+_, _*_, _-_, _≤_, _<_}
-use mathlib.Core.Path.{_≡_, refl, ap, sym, _∙_}
-use lib.ListN.{length, getD, take, drop, set}
+-- `engine::first::gather` meets its contract: the column of the listed rules.
+-- The loop's invariant: the places written so far hold the column's entries. The measure is the number of places left.
+-- Assumes nothing.
+use Prim.Native.Nat.{_-_, _≤_}
+use mathlib.Core.Path.{_≡_, ap}
+use lib.ListN.{length, getD, length-set}
 use Rattle.engine.specs.Listed.{Gathered, gathered-add}
-use lib.ListN.{length-set}
 use native.Mathlib.Omega.{arith}
-use borrow.Author.Needs.{needs}
 use Rattle.engine.proofs.first.gather.Statement.{statement}
 use Rattle.engine.proofs.first.gather.Tie as tie
-use Rattle.engine.proofs.first.gather.Reads as reads
-use Rattle.engine.proofs.first.gather.Lts as lts
-use Rattle.engine.proofs.first.wide.Reads as wide-reads
 
 abbrev Inv-loop : tie.InvT-loop
 Inv-loop column list len picked₀ j₀ picked j = (j ≤ len) × (length picked ≡ 2048) × Gathered column list j picked
@@ -17,54 +15,42 @@ Inv-loop column list len picked₀ j₀ picked j = (j ≤ len) × (length picked
 abbrev μ-loop : tie.MeasureT-loop
 μ-loop column list len picked₀ j₀ picked j = len - j
 
--- src/first.rt:113:5
 loop-holds : tie.Need-loop-holds Inv-loop μ-loop
 loop-holds c = omega arith
 
--- src/first.rt:114:22
 mul-wide : tie.Need-mul-wide Inv-loop μ-loop
 mul-wide c = omega arith
 
--- src/first.rt:114:22
 element-copy-out-wide : tie.Need-element-copy-out-wide Inv-loop μ-loop
 element-copy-out-wide c = omega arith
 
--- src/first.rt:114:13
 wide-requires : tie.Need-wide-requires Inv-loop μ-loop
 wide-requires c κs = omega arith
 
--- src/first.rt:115:21
 mul-picked : tie.Need-mul-picked Inv-loop μ-loop
 mul-picked c = let l = c .before .before .before in omega (arith, l .before .pre .1 (l .loop .j) (c .before .before .loop-test .taken))
 
--- src/first.rt:115:21
 element-copy-out-picked : tie.Need-element-copy-out-picked Inv-loop μ-loop
 element-copy-out-picked c = let l = c .before .before .before in omega (arith, l .before .pre .1 (l .loop .j) (c .before .before .loop-test .taken))
 
--- src/first.rt:115:9
 mul-picked-2 : tie.Need-mul-picked-2 Inv-loop μ-loop
 mul-picked-2 c = omega arith
 
--- src/first.rt:115:9
 array-write-picked : tie.Need-array-write-picked Inv-loop μ-loop
 array-write-picked c = omega arith
 
--- src/first.rt:116:9
 add-j : tie.Need-add-j Inv-loop μ-loop
 add-j c = omega arith
 
--- src/first.rt:113:5
 loop-less : tie.Need-loop-less Inv-loop μ-loop
 loop-less c = omega arith
 
--- src/first.rt:113:5
 loop-again : tie.Need-loop-again Inv-loop μ-loop
 loop-again c =
     let l = c .before .before .before .before in
     let s = l .before .args in
     (omega arith, simp length-set (l .loop .inv .1), gathered-add (s .column .now) (s .list .now) (l .loop .picked) (l .loop .j) _ (l .loop .inv .2) (omega arith) (ap (λ x. getD (s .column .now) x 0) (c .before .wide .ensures)))
 
--- src/first.rt:106:1
 returns : tie.Need-returns Inv-loop μ-loop
 returns c = let l = c .before in λ j b. l .loop .inv .2 j (omega arith)
 
@@ -86,5 +72,3 @@ gather-spec =
     loop-less
     loop-again
     returns)
-
--- t

@@ -1,17 +1,15 @@
-use Prim.Native.Nat.{ℕ, suc, _+_, _*_, _-_, _≤_, _<_}
-use mathlib.Core.Path.{_≡_, refl, ap, sym, _∙_}
-use lib.ListN.{length, getD, take, drop, set}
+-- `engine::first::near` meets its contract: the least number of rules from each transition to v.
+-- The loop's invariant: every distance is that of a walk, and after a sweep without a change no rule shows a shorter one. The measure is the sum of the distances, and 1 while a sweep is due.
+-- Assumes nothing.
+use Prim.Native.Nat.{_+_}
+use mathlib.Core.Path.{_≡_, refl, ap}
 use mathlib.Core.Bool.{false}
 use Rattle.engine.specs.Listed.{plain}
 use Rattle.engine.specs.Sum.{total, oneIf, fell-less, not-both}
 use Rattle.engine.specs.Near.{Near, Settled, near-none}
 use native.Mathlib.Omega.{arith}
-use borrow.Author.Needs.{needs}
 use Rattle.engine.proofs.first.near.Statement.{statement}
 use Rattle.engine.proofs.first.near.Tie as tie
-use Rattle.engine.proofs.first.near.Reads as reads
-use Rattle.engine.proofs.first.near.Lts as lts
-use Rattle.engine.proofs.first.sweep.Reads as sweep-reads
 
 abbrev Inv-loop : tie.InvT-loop
 Inv-loop source target len v dist₀ down₀ fell₀ dist down fell = Near (plain source target len) v dist × (fell ≡ false → Settled (plain source target len) v dist)
@@ -19,23 +17,18 @@ Inv-loop source target len v dist₀ down₀ fell₀ dist down fell = Near (plai
 abbrev μ-loop : tie.MeasureT-loop
 μ-loop source target len v dist₀ down₀ fell₀ dist down fell = total 256 dist + oneIf fell
 
--- src/first.rt:253:5
 loop-holds : tie.Need-loop-holds Inv-loop μ-loop
 loop-holds c = let a = c .args in (near-none (plain (a .source .now) (a .target .now) (a .len)) (a .v), λ e. absurd (not-both _ refl e))
 
--- src/first.rt:254:9
 sweep-requires : tie.Need-sweep-requires Inv-loop μ-loop
 sweep-requires c κs = (c .before .before .before .pre, c .before .before .loop .inv .0)
 
--- src/first.rt:253:5
 loop-less : tie.Need-loop-less Inv-loop μ-loop
 loop-less c = omega (arith, fell-less _ _ _ (c .sweep .ensures .fell), ap oneIf (c .before .before .loop-test .taken))
 
--- src/first.rt:253:5
 loop-again : tie.Need-loop-again Inv-loop μ-loop
 loop-again c = (c .sweep .ensures .near, c .sweep .ensures .settled)
 
--- src/first.rt:246:1
 returns : tie.Need-returns Inv-loop μ-loop
 returns c = (c .before .loop .inv .0, c .before .loop .inv .1 (c .loop-test .left))
 

@@ -1,64 +1,47 @@
-use Prim.Native.Nat.{ℕ, suc, _+_, _*_, _-_, _≤_, _<_}
-use mathlib.Core.Path.{_≡_, refl, ap, sym, _∙_}
-use lib.ListN.{length, getD, take, drop, set}
+-- `engine::first::nearer` meets its contract: one rule looked at.
+-- Assumes nothing.
+use lib.ListN.{getD}
 use Rattle.engine.specs.Near.{away-most, nearer-moved, nearer-kept}
 use native.Mathlib.Omega.{arith}
 use borrow.Author.Needs.{needs}
 use Rattle.engine.proofs.first.nearer.Statement.{statement}
 use Rattle.engine.proofs.first.nearer.Tie as tie
-use Rattle.engine.proofs.first.nearer.Reads as reads
-use Rattle.engine.proofs.first.nearer.Lts as lts
-use Rattle.engine.proofs.first.away.Reads as away-reads
-use Rattle.engine.proofs.first.narrow.Reads as narrow-reads
-use Rattle.engine.proofs.first.wide.Reads as wide-reads
 
--- src/first.rt:200:24
 mul-away : tie.Need-mul-away
 mul-away c = search needs
 
--- src/first.rt:200:24
 element-copy-out-away : tie.Need-element-copy-out-away
 element-copy-out-away c = search needs
 
--- src/first.rt:200:13
 away-requires : tie.Need-away-requires
 away-requires c κs = search needs
 
--- src/first.rt:200:13
 add-d : tie.Need-add-d
 add-d c = let s = c .before .before in omega (arith, s .pre, away-most (s .args .v) (s .args .t) (getD (s .args .dist .now) (s .args .t) 0))
 
--- src/first.rt:201:17
 mul-wide : tie.Need-mul-wide
 mul-wide c = search needs
 
--- src/first.rt:201:17
 element-copy-out-wide : tie.Need-element-copy-out-wide
 element-copy-out-wide c = search needs
 
--- src/first.rt:201:12
 wide-requires : tie.Need-wide-requires
 wide-requires c κs = search needs
 
--- src/first.rt:202:19
 narrow-requires : tie.Need-narrow-requires
 narrow-requires c κs = let s = c .before .before .before .before .before in omega (arith, s .pre, away-most (s .args .v) (s .args .t) (getD (s .args .dist .now) (s .args .t) 0))
 
--- src/first.rt:202:9
 mul-dist : tie.Need-mul-dist
 mul-dist c = search needs
 
--- src/first.rt:202:9
 element-write-dist : tie.Need-element-write-dist
 element-write-dist c = search needs
 
--- src/first.rt:203:9
 returns : tie.Need-returns
 returns c =
     let s = c .before .before .before .before .before .before .args in
     nearer-moved (s .v) (s .s) (s .t) (s .dist .now) _ (omega arith) (omega arith)
 
--- src/first.rt:196:1
 returns-2 : tie.Need-returns-2
 returns-2 c =
     let s = c .before .before .before .before .before .args in

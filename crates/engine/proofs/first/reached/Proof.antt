@@ -1,16 +1,14 @@
-use Prim.Native.Nat.{ℕ, suc, _+_, _*_, _-_, _≤_, _<_}
-use mathlib.Core.Path.{_≡_, refl, ap, sym, _∙_}
-use lib.ListN.{length, getD, take, drop, set}
+-- `engine::first::reached` meets its contract: a rule whose one end remains marks its other end.
+-- The loop's invariant: the rules passed have marked theirs. The measure is the number of rules left.
+-- Assumes nothing.
+use Prim.Native.Nat.{_-_, _≤_}
+use mathlib.Core.Path.{_≡_, ap}
+use lib.ListN.{length, getD, length-set}
 use mathlib.Core.Logic.{⊎-elim}
-use Rattle.engine.specs.Peel.{Marked, marked-none, marked-add, marked-skip}
-use lib.ListN.{length-set}
+use Rattle.engine.specs.Peel.{Marked, marked-add, marked-skip}
 use native.Mathlib.Omega.{arith}
-use borrow.Author.Needs.{needs}
 use Rattle.engine.proofs.first.reached.Statement.{statement}
 use Rattle.engine.proofs.first.reached.Tie as tie
-use Rattle.engine.proofs.first.reached.Reads as reads
-use Rattle.engine.proofs.first.reached.Lts as lts
-use Rattle.engine.proofs.first.wide.Reads as wide-reads
 
 abbrev Inv-loop : tie.InvT-loop
 Inv-loop from to len alive marks₀ j₀ marks j = (j ≤ len) × (length marks ≡ 256) × Marked from to j alive marks
@@ -18,51 +16,39 @@ Inv-loop from to len alive marks₀ j₀ marks j = (j ≤ len) × (length marks 
 abbrev μ-loop : tie.MeasureT-loop
 μ-loop from to len alive marks₀ j₀ marks j = len - j
 
--- src/first.rt:128:5
 loop-holds : tie.Need-loop-holds Inv-loop μ-loop
 loop-holds c = omega arith
 
--- src/first.rt:129:22
 mul-wide : tie.Need-mul-wide Inv-loop μ-loop
 mul-wide c = omega arith
 
--- src/first.rt:129:22
 element-copy-out-wide : tie.Need-element-copy-out-wide Inv-loop μ-loop
 element-copy-out-wide c = omega arith
 
--- src/first.rt:129:13
 wide-requires : tie.Need-wide-requires Inv-loop μ-loop
 wide-requires c κs = omega arith
 
--- src/first.rt:130:22
 mul-wide-2 : tie.Need-mul-wide-2 Inv-loop μ-loop
 mul-wide-2 c = omega arith
 
--- src/first.rt:130:22
 element-copy-out-wide-2 : tie.Need-element-copy-out-wide-2 Inv-loop μ-loop
 element-copy-out-wide-2 c = omega arith
 
--- src/first.rt:130:13
 wide-requires-2 : tie.Need-wide-requires-2 Inv-loop μ-loop
 wide-requires-2 c κs = omega arith
 
--- src/first.rt:131:12
 element-copy-out-if1 : tie.Need-element-copy-out-if1 Inv-loop μ-loop
 element-copy-out-if1 c = let l = c .before .before .before .before .before in omega (arith, l .before .pre .from-below (l .loop .j) (c .before .before .before .before .loop-test .taken))
 
--- src/first.rt:132:13
 array-write-marks : tie.Need-array-write-marks Inv-loop μ-loop
 array-write-marks c = let i = c .before .before .before .before .before .before in omega (arith, i .before .before .pre .to-below (i .before .loop .j) (i .loop-test .taken))
 
--- src/first.rt:134:9
 add-j : tie.Need-add-j Inv-loop μ-loop
 add-j c = omega arith
 
--- src/first.rt:128:5
 loop-less : tie.Need-loop-less Inv-loop μ-loop
 loop-less c = omega arith
 
--- src/first.rt:128:5
 loop-again : tie.Need-loop-again Inv-loop μ-loop
 loop-again c =
     let i = c .before .before .before .before .before .before in
@@ -76,7 +62,6 @@ loop-again c =
           (c .if1 .came),
     )
 
--- src/first.rt:122:1
 returns : tie.Need-returns Inv-loop μ-loop
 returns c = let l = c .before in λ j b. l .loop .inv .2 j (omega arith)
 

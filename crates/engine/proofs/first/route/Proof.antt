@@ -1,17 +1,14 @@
-use Prim.Native.Nat.{ℕ, suc, _+_, _*_, _-_, _≤_, _<_}
-use mathlib.Core.Path.{_≡_, refl, ap, sym, _∙_}
-use lib.ListN.{length, getD, take, drop, set}
-use Rattle.engine.specs.Found.{Routed, route-step, route-ends}
-use lib.ListN.{length-set}
-use Rattle.engine.specs.Found.{numbers}
+-- `engine::first::route` meets its contract: the rules followed from v, by their numbers.
+-- The loop's invariant: the rules written, and those still to be followed, are the whole walk. The measure is the number of rules left.
+-- Assumes nothing.
+use Prim.Native.Nat.{_-_, _≤_, _<_}
+use mathlib.Core.Path.{_≡_, refl, ap}
+use lib.ListN.{length, getD, length-set}
+use Rattle.engine.specs.Found.{Routed, route-step, route-ends, numbers}
 use Rattle.engine.specs.Near.{followed}
 use native.Mathlib.Omega.{arith}
-use borrow.Author.Needs.{needs}
 use Rattle.engine.proofs.first.route.Statement.{statement}
 use Rattle.engine.proofs.first.route.Tie as tie
-use Rattle.engine.proofs.first.route.Reads as reads
-use Rattle.engine.proofs.first.route.Lts as lts
-use Rattle.engine.proofs.first.wide.Reads as wide-reads
 
 abbrev Inv-loop : tie.InvT-loop
 Inv-loop target list v k next rules₀ u₀ i₀ rules u i = (i ≤ k) × (u < 256) × (length rules ≡ 256) × Routed target list next v k i u rules
@@ -19,62 +16,48 @@ Inv-loop target list v k next rules₀ u₀ i₀ rules u i = (i ≤ k) × (u < 2
 abbrev μ-loop : tie.MeasureT-loop
 μ-loop target list v k next rules₀ u₀ i₀ rules u i = k - i
 
--- src/first.rt:281:5
 loop-holds : tie.Need-loop-holds Inv-loop μ-loop
 loop-holds c =
     let a = c .args in
     let whole : a .k - 0 ≡ a .k = omega arith in
     (omega arith, c .pre .start, refl, ap (λ x. numbers (a .list .now) (followed (a .target .now) (a .next .now) (a .v) x)) whole)
 
--- src/first.rt:282:22
 mul-wide : tie.Need-mul-wide Inv-loop μ-loop
 mul-wide c = omega arith
 
--- src/first.rt:282:22
 element-copy-out-wide : tie.Need-element-copy-out-wide Inv-loop μ-loop
 element-copy-out-wide c = omega arith
 
--- src/first.rt:282:13
 wide-requires : tie.Need-wide-requires Inv-loop μ-loop
 wide-requires c κs = omega arith
 
--- src/first.rt:283:20
 mul-rules : tie.Need-mul-rules Inv-loop μ-loop
 mul-rules c = let l = c .before .before .before in omega (arith, l .before .pre .steps (l .loop .u) (l .loop .inv .1))
 
--- src/first.rt:283:20
 element-copy-out-rules : tie.Need-element-copy-out-rules Inv-loop μ-loop
 element-copy-out-rules c = let l = c .before .before .before in omega (arith, l .before .pre .steps (l .loop .u) (l .loop .inv .1))
 
--- src/first.rt:283:9
 mul-rules-2 : tie.Need-mul-rules-2 Inv-loop μ-loop
 mul-rules-2 c = omega arith
 
--- src/first.rt:283:9
 array-write-rules : tie.Need-array-write-rules Inv-loop μ-loop
 array-write-rules c = omega arith
 
--- src/first.rt:284:18
 mul-wide-2 : tie.Need-mul-wide-2 Inv-loop μ-loop
 mul-wide-2 c = let l = c .before .before .before .before in omega (arith, l .before .pre .steps (l .loop .u) (l .loop .inv .1))
 
--- src/first.rt:284:18
 element-copy-out-wide-2 : tie.Need-element-copy-out-wide-2 Inv-loop μ-loop
 element-copy-out-wide-2 c = let l = c .before .before .before .before in omega (arith, l .before .pre .steps (l .loop .u) (l .loop .inv .1))
 
--- src/first.rt:284:9
 wide-requires-2 : tie.Need-wide-requires-2 Inv-loop μ-loop
 wide-requires-2 c κs = omega arith
 
--- src/first.rt:285:9
 add-i : tie.Need-add-i Inv-loop μ-loop
 add-i c = omega arith
 
--- src/first.rt:281:5
 loop-less : tie.Need-loop-less Inv-loop μ-loop
 loop-less c = omega arith
 
--- src/first.rt:281:5
 loop-again : tie.Need-loop-again Inv-loop μ-loop
 loop-again c =
     let l = c .before .before .before .before .before .before in
@@ -86,7 +69,6 @@ loop-again c =
       route-step (s .target .now) (s .list .now) (s .next .now) (s .v) (s .k) (l .loop .i) (l .loop .u) (l .loop .rules) _ _ _ (l .loop .inv .3) (omega arith) (omega (arith, l .before .pre .short)) j refl (c .wide2 .ensures),
     )
 
--- src/first.rt:274:1
 returns : tie.Need-returns Inv-loop μ-loop
 returns c =
     let l = c .before in

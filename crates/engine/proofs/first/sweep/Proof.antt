@@ -1,18 +1,13 @@
-use Prim.Native.Nat.{ℕ, suc, _+_, _*_, _-_, _≤_, _<_}
-use mathlib.Core.Path.{_≡_, refl, ap, sym, _∙_}
-use lib.ListN.{length, getD, take, drop, set}
+-- `engine::first::sweep` meets its contract: every rule is looked at once.
+-- The loop's invariant: every distance is that of a walk, and either one fell or no rule passed shows a shorter one. The measure is the number of rules left.
+-- Assumes nothing.
+use Prim.Native.Nat.{_-_, _≤_}
 use mathlib.Core.Logic.{⊎-elim}
 use Rattle.engine.specs.Listed.{plain}
 use Rattle.engine.specs.Near.{Sweeping, sweep-starts, sweep-turn, sweep-ends}
 use native.Mathlib.Omega.{arith}
-use borrow.Author.Needs.{needs}
 use Rattle.engine.proofs.first.sweep.Statement.{statement}
 use Rattle.engine.proofs.first.sweep.Tie as tie
-use Rattle.engine.proofs.first.sweep.Reads as reads
-use Rattle.engine.proofs.first.sweep.Lts as lts
-use Rattle.engine.proofs.first.nearer.Reads as nearer-reads
-use Rattle.engine.proofs.first.turn.Reads as turn-reads
-use Rattle.engine.proofs.first.wide.Reads as wide-reads
 
 abbrev Inv-loop : tie.InvT-loop
 Inv-loop source target len down v dist₀ fell₀ i₀ dist fell i = (i ≤ len) × Sweeping (plain source target len) v down i dist₀ dist fell
@@ -20,39 +15,30 @@ Inv-loop source target len down v dist₀ fell₀ i₀ dist fell i = (i ≤ len)
 abbrev μ-loop : tie.MeasureT-loop
 μ-loop source target len down v dist₀ fell₀ i₀ dist fell i = len - i
 
--- src/first.rt:227:5
 loop-holds : tie.Need-loop-holds Inv-loop μ-loop
 loop-holds c = let a = c .args in (omega arith, sweep-starts (plain (a .source .now) (a .target .now) (a .len)) (a .v) (a .down) (a .dist .now) (c .pre .1))
 
--- src/first.rt:228:13
 turn-requires : tie.Need-turn-requires Inv-loop μ-loop
 turn-requires c κs = omega arith
 
--- src/first.rt:229:22
 mul-wide : tie.Need-mul-wide Inv-loop μ-loop
 mul-wide c = omega arith
 
--- src/first.rt:229:22
 element-copy-out-wide : tie.Need-element-copy-out-wide Inv-loop μ-loop
 element-copy-out-wide c = omega arith
 
--- src/first.rt:229:13
 wide-requires : tie.Need-wide-requires Inv-loop μ-loop
 wide-requires c κs = omega arith
 
--- src/first.rt:230:22
 mul-wide-2 : tie.Need-mul-wide-2 Inv-loop μ-loop
 mul-wide-2 c = omega arith
 
--- src/first.rt:230:22
 element-copy-out-wide-2 : tie.Need-element-copy-out-wide-2 Inv-loop μ-loop
 element-copy-out-wide-2 c = omega arith
 
--- src/first.rt:230:13
 wide-requires-2 : tie.Need-wide-requires-2 Inv-loop μ-loop
 wide-requires-2 c κs = omega arith
 
--- src/first.rt:231:12
 nearer-requires : tie.Need-nearer-requires Inv-loop μ-loop
 nearer-requires c κs =
     let t = c .before .before .before .before .before in
@@ -61,15 +47,12 @@ nearer-requires c κs =
     let j = t .turn .ensures .1 in
     (omega (arith, w .from-below _ j), omega (arith, w .to-below _ j), l .loop .inv .1 .near .low _)
 
--- src/first.rt:234:9
 add-i : tie.Need-add-i Inv-loop μ-loop
 add-i c = omega arith
 
--- src/first.rt:227:5
 loop-less : tie.Need-loop-less Inv-loop μ-loop
 loop-less c = omega arith
 
--- src/first.rt:227:5
 loop-again : tie.Need-loop-again Inv-loop μ-loop
 loop-again c =
     let t = c .before .before .before .before .before .before .before in
@@ -82,7 +65,6 @@ loop-again c =
     let law = sweep-turn (plain (a .source .now) (a .target .now) (a .len)) (a .v) (a .down) (a .dist .now) (l .loop .i) _ _ _ _ (l .loop .inv .1) _ _ _ (j .0) (j .1) from to (omega (arith, s .pre .0 .from-below _ (j .1))) (omega (arith, s .pre .0 .to-below _ (j .1))) (c .before .nearer .ensures) in
     (omega arith, ⊎-elim (λ w. rw (w .1) (law .0 (w .0 .taken))) (λ w. rw (w .1) (law .1 (w .0 .left))) (c .if1 .came))
 
--- src/first.rt:220:1
 returns : tie.Need-returns Inv-loop μ-loop
 returns c =
     let l = c .before in

@@ -1,48 +1,37 @@
-use Prim.Native.Nat.{ℕ, suc, _+_, _*_, _-_, _≤_, _<_}
-use mathlib.Core.Path.{_≡_, refl, ap, sym, _∙_}
-use lib.ListN.{length, getD, take, drop, set}
+-- `engine::first::tight` meets its contract: a rule is kept with nothing to spare. No product is wider than 2^62.
+-- Assumes nothing.
+use Prim.Native.Nat.{_*_, _≤_}
+use mathlib.Core.Path.{refl, ap}
 use native.Mathlib.Nat.{mul-le-mul}
 use Rattle.engine.specs.Sum.{not-both}
 use native.Mathlib.Omega.{arith}
 use borrow.Author.Needs.{needs}
 use Rattle.engine.proofs.first.tight.Statement.{statement}
 use Rattle.engine.proofs.first.tight.Tie as tie
-use Rattle.engine.proofs.first.tight.Reads as reads
-use Rattle.engine.proofs.first.tight.Lts as lts
-use Rattle.engine.proofs.first.wide_delay.Reads as wide-delay-reads
-use Rattle.engine.proofs.first.wide_offset.Reads as wide-offset-reads
 
--- src/first.rt:80:17
 wide-delay-requires : tie.Need-wide-delay-requires
 wide-delay-requires c κs = search needs
 
--- src/first.rt:80:13
 mul-if1 : tie.Need-mul-if1
 mul-if1 c = let b : c .wide-delay .result ≤ 1000000 = omega arith in omega (arith, mul-le-mul (c .before .pre .5) b)
 
--- src/first.rt:80:8
 add-if1 : tie.Need-add-if1
 add-if1 c = let b : c .wide-delay .result ≤ 1000000 = omega arith in omega (arith, mul-le-mul (c .before .pre .5) b)
 
--- src/first.rt:80:47
 wide-offset-requires : tie.Need-wide-offset-requires
 wide-offset-requires c κs = search needs
 
--- src/first.rt:80:43
 mul-if1-2 : tie.Need-mul-if1-2
 mul-if1-2 c = let b : c .wide-offset .result ≤ 15 = omega arith in omega (arith, mul-le-mul (c .before .before .pre .4) b)
 
--- src/first.rt:80:38
 add-if1-2 : tie.Need-add-if1-2
 add-if1-2 c = let b : c .wide-offset .result ≤ 15 = omega arith in omega (arith, mul-le-mul (c .before .before .pre .4) b)
 
--- src/first.rt:81:9
 returns : tie.Need-returns
 returns c =
     let a = c .before .before .before .args in
     (λ z. omega (arith, c .if1 .taken, ap (λ x. a .q * x) (c .before .before .wide-delay .ensures), ap (λ x. a .p * x) (c .before .wide-offset .ensures)), λ z. absurd (not-both _ refl z))
 
--- src/first.rt:76:1
 returns-2 : tie.Need-returns-2
 returns-2 c =
     let a = c .before .before .before .args in

@@ -1,33 +1,21 @@
-use Prim.Native.Nat.{ℕ, suc, _+_, _*_, _-_, _≤_, _<_}
-use mathlib.Core.Path.{_≡_, refl, ap, sym, _∙_}
-use lib.ListN.{length, getD, take, drop, set}
+-- `engine::first::tight_loop` meets its contract: the first loop of tight rules: that of the listed rules, by their numbers.
+-- Assumes nothing.
 use Rattle.engine.specs.Listed.{listed-few, limits-picked, limits-most}
 use Rattle.engine.specs.Found.{found-kind}
 use Rattle.theory.specs.Schedule.{TightRule}
 use Rattle.engine.specs.Columns.{shape, delayAt}
-use native.Mathlib.Omega.{arith}
-use borrow.Author.Needs.{needs}
 use Rattle.engine.proofs.first.tight_loop.Statement.{statement}
 use Rattle.engine.proofs.first.tight_loop.Tie as tie
-use Rattle.engine.proofs.first.tight_loop.Reads as reads
-use Rattle.engine.proofs.first.tight_loop.Lts as lts
-use Rattle.engine.proofs.first.first_loop.Reads as first-loop-reads
-use Rattle.engine.proofs.first.gather.Reads as gather-reads
-use Rattle.engine.proofs.first.tight_rules.Reads as tight-rules-reads
 
--- src/first.rt:338:9
 tight-rules-requires : tie.Need-tight-rules-requires
 tight-rules-requires c κs = let a = c .args in (limits-most (a .source .now) (a .target .now) (a .offset .now) (a .m) (a .n) (c .pre .0), c .pre .1)
 
--- src/first.rt:341:16
 gather-requires : tie.Need-gather-requires
 gather-requires c κs = let k = c .before .before .tight-rules in listed-few _ (k .result .rules) (k .result .len) (c .before .before .before .args .m) (k .ensures) (c .before .before .before .pre .0 .few-rules)
 
--- src/first.rt:342:14
 gather-requires-2 : tie.Need-gather-requires-2
 gather-requires-2 c κs = let k = c .before .before .before .before .tight-rules in listed-few _ (k .result .rules) (k .result .len) (c .before .before .before .before .before .args .m) (k .ensures) (c .before .before .before .before .before .pre .0 .few-rules)
 
--- src/first.rt:343:5
 first-loop-requires : tie.Need-first-loop-requires
 first-loop-requires c κs =
     let s = c .before .before .before .before .before .before .before .before .before in
@@ -37,7 +25,6 @@ first-loop-requires c κs =
     let to = c .before .before .before .gather2 in
     limits-picked (a .source .now) (a .target .now) (a .offset .now) (k .result .rules) (from .result) (to .result) (a .m) (k .result .len) (from .ensures) (to .ensures) _ (a .n) (k .ensures) (s .pre .0)
 
--- src/first.rt:332:1
 returns : tie.Need-returns
 returns c =
     let a = c .before .before .before .before .before .before .before .before .before .before .args in

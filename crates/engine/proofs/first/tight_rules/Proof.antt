@@ -1,20 +1,17 @@
-use Prim.Native.Nat.{ℕ, suc, _+_, _*_, _-_, _≤_, _<_}
-use mathlib.Core.Path.{_≡_, refl, ap, sym, _∙_}
-use lib.ListN.{length, getD, take, drop, set}
+-- `engine::first::tight_rules` meets its contract: the tight rules, lowest first.
+-- The loop's invariant: the list holds those below r. The measure is the number of rules left.
+-- Assumes nothing.
+use Prim.Native.Nat.{_-_, _≤_}
+use mathlib.Core.Path.{_≡_, ap}
+use lib.ListN.{length, getD, length-set}
 use mathlib.Core.Logic.{⊎-elim}
 use Rattle.theory.specs.Schedule.{TightRule}
 use Rattle.engine.specs.Columns.{shape, delayAt}
 use Rattle.engine.specs.Listed.{Listed, listed-none, listed-add, listed-skip}
-use lib.ListN.{length-set}
 use native.Mathlib.Omega.{arith}
 use borrow.Author.Needs.{needs}
 use Rattle.engine.proofs.first.tight_rules.Statement.{statement}
 use Rattle.engine.proofs.first.tight_rules.Tie as tie
-use Rattle.engine.proofs.first.tight_rules.Reads as reads
-use Rattle.engine.proofs.first.tight_rules.Lts as lts
-use Rattle.engine.proofs.first.narrow.Reads as narrow-reads
-use Rattle.engine.proofs.first.tight.Reads as tight-reads
-use Rattle.engine.proofs.first.wide.Reads as wide-reads
 
 abbrev Inv-loop : tie.InvT-loop
 Inv-loop source target offset delay m p q x rules₀ len₀ r₀ rules len r = (r ≤ m) × (length rules ≡ 2048) × Listed (TightRule (shape source target offset m) (delayAt delay) p q x) rules len r
@@ -22,98 +19,75 @@ Inv-loop source target offset delay m p q x rules₀ len₀ r₀ rules len r = (
 abbrev μ-loop : tie.MeasureT-loop
 μ-loop source target offset delay m p q x rules₀ len₀ r₀ rules len r = m - r
 
--- src/first.rt:93:5
 loop-holds : tie.Need-loop-holds Inv-loop μ-loop
 loop-holds c = (omega arith, search needs, listed-none _ _)
 
--- src/first.rt:94:22
 mul-wide : tie.Need-mul-wide Inv-loop μ-loop
 mul-wide c = omega arith
 
--- src/first.rt:94:22
 element-copy-out-wide : tie.Need-element-copy-out-wide Inv-loop μ-loop
 element-copy-out-wide c = omega arith
 
--- src/first.rt:94:13
 wide-requires : tie.Need-wide-requires Inv-loop μ-loop
 wide-requires c κs = omega arith
 
--- src/first.rt:95:22
 mul-wide-2 : tie.Need-mul-wide-2 Inv-loop μ-loop
 mul-wide-2 c = omega arith
 
--- src/first.rt:95:22
 element-copy-out-wide-2 : tie.Need-element-copy-out-wide-2 Inv-loop μ-loop
 element-copy-out-wide-2 c = omega arith
 
--- src/first.rt:95:13
 wide-requires-2 : tie.Need-wide-requires-2 Inv-loop μ-loop
 wide-requires-2 c κs = omega arith
 
--- src/first.rt:96:18
 mul-tight : tie.Need-mul-tight Inv-loop μ-loop
 mul-tight c = let i = c .before .before .before .before in omega (arith, i .before .before .pre .0 .fits (i .before .loop .r) (i .loop-test .taken))
 
--- src/first.rt:96:18
 element-copy-out-tight : tie.Need-element-copy-out-tight Inv-loop μ-loop
 element-copy-out-tight c = let i = c .before .before .before .before in omega (arith, i .before .before .pre .0 .fits (i .before .loop .r) (i .loop-test .taken))
 
--- src/first.rt:96:24
 mul-tight-2 : tie.Need-mul-tight-2 Inv-loop μ-loop
 mul-tight-2 c = let i = c .before .before .before .before .before in omega (arith, i .before .before .pre .0 .fits (i .before .loop .r) (i .loop-test .taken))
 
--- src/first.rt:96:24
 element-copy-out-tight-2 : tie.Need-element-copy-out-tight-2 Inv-loop μ-loop
 element-copy-out-tight-2 c = let i = c .before .before .before .before .before in omega (arith, i .before .before .pre .0 .fits (i .before .loop .r) (i .loop-test .taken))
 
--- src/first.rt:96:30
 mul-tight-3 : tie.Need-mul-tight-3 Inv-loop μ-loop
 mul-tight-3 c = omega arith
 
--- src/first.rt:96:30
 element-copy-out-tight-3 : tie.Need-element-copy-out-tight-3 Inv-loop μ-loop
 element-copy-out-tight-3 c = omega arith
 
--- src/first.rt:96:41
 mul-tight-4 : tie.Need-mul-tight-4 Inv-loop μ-loop
 mul-tight-4 c = omega arith
 
--- src/first.rt:96:41
 element-copy-out-tight-4 : tie.Need-element-copy-out-tight-4 Inv-loop μ-loop
 element-copy-out-tight-4 c = omega arith
 
--- src/first.rt:96:12
 tight-requires : tie.Need-tight-requires Inv-loop μ-loop
 tight-requires c κs =
     let i = c .before .before .before .before .before .before .before .before in
     let s = i .before .before .pre in
     (s .1 .1 .2 _, s .1 .1 .2 _, s .0 .small-offsets _ (i .loop-test .taken), s .1 .0 _ (i .loop-test .taken), s .1 .1 .0, s .1 .1 .1)
 
--- src/first.rt:97:26
 narrow-requires : tie.Need-narrow-requires Inv-loop μ-loop
 narrow-requires c κs = omega arith
 
--- src/first.rt:97:13
 mul-rules : tie.Need-mul-rules Inv-loop μ-loop
 mul-rules c = omega arith
 
--- src/first.rt:97:13
 array-write-rules : tie.Need-array-write-rules Inv-loop μ-loop
 array-write-rules c = omega arith
 
--- src/first.rt:98:13
 add-len : tie.Need-add-len Inv-loop μ-loop
 add-len c = omega arith
 
--- src/first.rt:100:9
 add-r : tie.Need-add-r Inv-loop μ-loop
 add-r c = omega arith
 
--- src/first.rt:93:5
 loop-less : tie.Need-loop-less Inv-loop μ-loop
 loop-less c = omega arith
 
--- src/first.rt:93:5
 loop-again : tie.Need-loop-again Inv-loop μ-loop
 loop-again c =
     let l = c .before .before .before .before .before .before .before .before .before .before .before in
@@ -130,7 +104,6 @@ loop-again c =
           (c .if1 .came),
     )
 
--- src/first.rt:84:1
 returns : tie.Need-returns Inv-loop μ-loop
 returns c =
     let l = c .before in

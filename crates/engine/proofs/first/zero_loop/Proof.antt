@@ -1,31 +1,22 @@
-use Prim.Native.Nat.{ℕ, suc, _+_, _*_, _-_, _≤_, _<_}
-use mathlib.Core.Path.{_≡_, refl, ap, sym, _∙_}
-use lib.ListN.{length, getD, take, drop, set}
+-- `engine::first::zero_loop` meets its contract: the first loop of rules of offset 0: that of the listed rules, by their numbers.
+-- Assumes nothing.
+use mathlib.Core.Path.{_≡_}
+use lib.ListN.{getD}
 use Rattle.engine.specs.Listed.{listed-few, limits-picked}
 use Rattle.engine.specs.Found.{found-kind}
-use native.Mathlib.Omega.{arith}
 use borrow.Author.Needs.{needs}
 use Rattle.engine.proofs.first.zero_loop.Statement.{statement}
 use Rattle.engine.proofs.first.zero_loop.Tie as tie
-use Rattle.engine.proofs.first.zero_loop.Reads as reads
-use Rattle.engine.proofs.first.zero_loop.Lts as lts
-use Rattle.engine.proofs.first.first_loop.Reads as first-loop-reads
-use Rattle.engine.proofs.first.gather.Reads as gather-reads
-use Rattle.engine.proofs.first.zero_rules.Reads as zero-rules-reads
 
--- src/first.rt:323:9
 zero-rules-requires : tie.Need-zero-rules-requires
 zero-rules-requires c κs = search needs
 
--- src/first.rt:326:16
 gather-requires : tie.Need-gather-requires
 gather-requires c κs = let k = c .before .before .zero-rules in listed-few _ (k .result .rules) (k .result .len) (c .before .before .before .args .m) (k .ensures) (c .before .before .before .pre .few-rules)
 
--- src/first.rt:327:14
 gather-requires-2 : tie.Need-gather-requires-2
 gather-requires-2 c κs = let k = c .before .before .before .before .zero-rules in listed-few _ (k .result .rules) (k .result .len) (c .before .before .before .before .before .args .m) (k .ensures) (c .before .before .before .before .before .pre .few-rules)
 
--- src/first.rt:328:5
 first-loop-requires : tie.Need-first-loop-requires
 first-loop-requires c κs =
     let s = c .before .before .before .before .before .before .before .before .before in
@@ -35,7 +26,6 @@ first-loop-requires c κs =
     let to = c .before .before .before .gather2 in
     limits-picked (a .source .now) (a .target .now) (a .offset .now) (k .result .rules) (from .result) (to .result) (a .m) (k .result .len) (from .ensures) (to .ensures) _ (a .n) (k .ensures) (s .pre)
 
--- src/first.rt:319:1
 returns : tie.Need-returns
 returns c =
     let a = c .before .before .before .before .before .before .before .before .before .before .args in

@@ -1,17 +1,15 @@
-use Prim.Native.Nat.{ℕ, suc, _+_, _*_, _-_, _≤_, _<_}
-use mathlib.Core.Path.{_≡_, refl, ap, sym, _∙_}
-use lib.ListN.{length, getD, take, drop, set}
+-- `engine::first::zero_rules` meets its contract: the rules of offset 0, lowest first.
+-- The loop's invariant: the list holds those below r. The measure is the number of rules left.
+-- Assumes nothing.
+use Prim.Native.Nat.{_-_, _≤_}
+use mathlib.Core.Path.{_≡_}
+use lib.ListN.{length, getD, length-set}
 use mathlib.Core.Logic.{⊎-elim}
 use Rattle.engine.specs.Listed.{Listed, listed-none, listed-add, listed-skip}
-use lib.ListN.{length-set}
 use native.Mathlib.Omega.{arith}
 use borrow.Author.Needs.{needs}
 use Rattle.engine.proofs.first.zero_rules.Statement.{statement}
 use Rattle.engine.proofs.first.zero_rules.Tie as tie
-use Rattle.engine.proofs.first.zero_rules.Reads as reads
-use Rattle.engine.proofs.first.zero_rules.Lts as lts
-use Rattle.engine.proofs.first.narrow.Reads as narrow-reads
-use Rattle.engine.proofs.first.wide.Reads as wide-reads
 
 abbrev Inv-loop : tie.InvT-loop
 Inv-loop offset m rules₀ len₀ r₀ rules len r = (r ≤ m) × (length rules ≡ 2048) × Listed (λ i. getD offset i 0 ≡ 0) rules len r
@@ -19,47 +17,36 @@ Inv-loop offset m rules₀ len₀ r₀ rules len r = (r ≤ m) × (length rules 
 abbrev μ-loop : tie.MeasureT-loop
 μ-loop offset m rules₀ len₀ r₀ rules len r = m - r
 
--- src/first.rt:65:5
 loop-holds : tie.Need-loop-holds Inv-loop μ-loop
 loop-holds c = (omega arith, search needs, listed-none _ _)
 
--- src/first.rt:66:17
 mul-wide : tie.Need-mul-wide Inv-loop μ-loop
 mul-wide c = omega arith
 
--- src/first.rt:66:17
 element-copy-out-wide : tie.Need-element-copy-out-wide Inv-loop μ-loop
 element-copy-out-wide c = omega arith
 
--- src/first.rt:66:12
 wide-requires : tie.Need-wide-requires Inv-loop μ-loop
 wide-requires c κs = omega arith
 
--- src/first.rt:67:26
 narrow-requires : tie.Need-narrow-requires Inv-loop μ-loop
 narrow-requires c κs = omega arith
 
--- src/first.rt:67:13
 mul-rules : tie.Need-mul-rules Inv-loop μ-loop
 mul-rules c = omega arith
 
--- src/first.rt:67:13
 array-write-rules : tie.Need-array-write-rules Inv-loop μ-loop
 array-write-rules c = omega arith
 
--- src/first.rt:68:13
 add-len : tie.Need-add-len Inv-loop μ-loop
 add-len c = omega arith
 
--- src/first.rt:70:9
 add-r : tie.Need-add-r Inv-loop μ-loop
 add-r c = omega arith
 
--- src/first.rt:65:5
 loop-less : tie.Need-loop-less Inv-loop μ-loop
 loop-less c = omega arith
 
--- src/first.rt:65:5
 loop-again : tie.Need-loop-again Inv-loop μ-loop
 loop-again c =
     let l = c .before .before .before .before in
@@ -72,7 +59,6 @@ loop-again c =
           (c .if1 .came),
     )
 
--- src/first.rt:58:1
 returns : tie.Need-returns Inv-loop μ-loop
 returns c =
     let l = c .before in

@@ -2,7 +2,7 @@
 --
 --   Rule, rule              == a rule as the paper writes it, source>target/offset/delay
 --   shapeOf rs, rangesOf rs == the shape and the ranges of a list of rules, an unknown delay being at most 1,000,000
---   Line, Right             == a line of the table, and what it claims
+--   Lap, Right           == a lap worked by hand, and what it claims
 --   kept, times             a finite check for schedules and for times
 --   ring-loops, ..          the loops of the shapes in the table
 use mathlib.Core.Path.{_≡_, refl, sym, ap, _∙_}
@@ -47,8 +47,8 @@ pub data Says : Type 0 where
   knotted : ℕ → Says
   flat : Says
 
--- a line of the table; its times are those of the first `occurrences`, row by row
-pub record Line : Type 0 where
+-- a lap; its times are those of the first `occurrences`, row by row
+pub record Lap : Type 0 where
   pub n : ℕ
   pub rules : List Rule
   pub says : Says
@@ -61,14 +61,10 @@ Holds S K n (knotted u) = Knot S u
 Holds S K n flat = Live S × NoLoop S
 
 -- the times are what a buffer of their length, all zeros before, then holds
-abbrev pub Right : Line → Type 0
+abbrev pub Right : Lap → Type 0
 Right l =
     Holds (shapeOf (l .rules)) (rangesOf (l .rules)) (l .n) (l .says)
     × Timed (shapeOf (l .rules)) (rangesOf (l .rules) .least) (l .occurrences) (l .n) (replicate (length (l .times)) 0) (l .times)
-
-abbrev pub AllRight : List Line → Type 0
-AllRight [] = Unit {0}
-AllRight (l ∷ ls) = Right l × AllRight ls
 
 -- a fact of each of the first m numbers, written out
 abbrev Each : (ℕ → Type 0) → ℕ → Type 0
