@@ -3,9 +3,10 @@
 --   NumRead s at low high x          x was read at `at` of s: its code stands there
 --   RuleHere s at n x                x was read at `at` of s: the rule's bytes stand there, and it is within its limits
 --   RulesHere s n t at r left u      what an accepted reading of `left` rules makes of the table t
+--   Accepted s t                     what is known of an accepted file and its table, whatever the elements of s are
 --   IsFile s t                       s is the file of t, which is within its limits and has its unused places in their form
 --
--- Theorem: accepted-is-file.
+-- Theorems: accepted-read, accepted-is-file.
 use Prim.{tt}
 use Prim.Native.Nat.{ℕ, zero, suc, _+_, _-_, _≤_, _<_}
 use mathlib.Core.Path.{_≡_, refl, ap, sym, _∙_, subst, subst⁻¹}
@@ -33,31 +34,32 @@ use Rattle.rulefile.specs.Steps.{num-split, then-split, drop-on, drop-fi
 
 -- x was read at `at`: its code stands there, and x goes on after it
 pub record NumRead (s : List ℕ) (at low high : ℕ) (x : Num) : Type 0 where
-  pub split : drop at s ≡ codeOf (x .value) ++ drop (x .next) s
-  pub further : x .next ≡ at + codeLength (x .value)
+  pub split : Bytes s → drop at s ≡ codeOf (x .value) ++ drop (x .next) s
+  pub further : Bytes s → x .next ≡ at + codeLength (x .value)
   pub fits : x .next ≤ length s
   pub low-ok : low ≤ x .value
   pub high-ok : x .value ≤ high
 
-pub num-back : (s : List ℕ) (at low high : ℕ) → Bytes s → at ≤ length s → numAt s at low high .refusal ≤ 0 → NumRead s at low high (numAt s at low high)
-num-back s at low high b h =
+pub num-back : (s : List ℕ) (at low high : ℕ) → at ≤ length s → numAt s at low high .refusal ≤ 0 → NumRead s at low high (numAt s at low high)
+num-back s at low high h =
     num-split (λ z. z .refusal ≤ 0 → NumRead s at low high z) s at low high
     (λ x e f g. absurd (omega arith))
-    (λ x e f g. made x (subst⁻¹ (λ (z : Answer). z .refusal ≡ 0 → drop at s ≡ codeOf (z .value) ++ z .rest) e (number-back groups (drop at s) low high (bytes-drop s at b)) f)
+    (λ x e f g. made x
+    (λ b. subst⁻¹ (λ (z : Answer). z .refusal ≡ 0 → drop at s ≡ codeOf (z .value) ++ z .rest) e (number-back groups (drop at s) low high (bytes-drop s at b)) f)
     (subst⁻¹ (λ (z : Answer). z .refusal ≡ 0 → (low ≤ z .value) × (z .value ≤ high)) e (number-within groups (drop at s) low high) f))
   where
-    made : (x : Answer) → drop at s ≡ codeOf (x .value) ++ x .rest → (low ≤ x .value) × (x .value ≤ high)
+    made : (x : Answer) → (Bytes s → drop at s ≡ codeOf (x .value) ++ x .rest) → (low ≤ x .value) × (x .value ≤ high)
         → NumRead s at low high (numGood (x .value) (length s - length (x .rest)))
     made x e r = record {
-      split = e ∙ ap (λ (ys : List ℕ). codeOf (x .value) ++ ys) (sym (drop-on s (codeOf (x .value)) (x .rest) at e) ∙ ap (λ n. drop n s) (sym on));
+      split = λ b. e b ∙ ap (λ (ys : List ℕ). codeOf (x .value) ++ ys) (sym (drop-on s (codeOf (x .value)) (x .rest) at (e b)) ∙ ap (λ n. drop n s) (sym (on b)));
       further = on;
       fits = omega arith;
       low-ok = r .0;
       high-ok = r .1;
     }
       where
-        on : length s - length (x .rest) ≡ at + codeLength (x .value)
-        on = omega (arith, drop-fits s (codeOf (x .value)) (x .rest) at h e)
+        on : Bytes s → length s - length (x .rest) ≡ at + codeLength (x .value)
+        on b = omega (arith, drop-fits s (codeOf (x .value)) (x .rest) at h (e b))
 
 -- ---- a rule
 
@@ -71,7 +73,7 @@ delay-within (suc d) h = omega arith
 
 -- x was read at `at`: its bytes stand there, and x goes on after them
 pub record RuleHere (s : List ℕ) (at n : ℕ) (x : RuleRead) : Type 0 where
-  pub split : drop at s ≡ ruleBytes (x .rule) ++ drop (x .next) s
+  pub split : Bytes s → drop at s ≡ ruleBytes (x .rule) ++ drop (x .next) s
   pub fits : x .next ≤ length s
   pub within : RuleWithin n (x .rule)
 
@@ -81,11 +83,11 @@ rule-made : (s : List ℕ) (at n : ℕ) (u v e c : Num) → 1 ≤ n → NumRead 
     → RuleHere s at n (ruleGood (record { source = u .value; target = v .value; offset = e .value; delay = delayOf (c .value) }) (c .next))
 unfolding ruleBytes
 rule-made s at n u v e c p a b d f = record {
-  split =
-      a .split ∙ ap (λ (r : List ℕ). codeOf (u .value) ++ r)
-      (b .split ∙ ap (λ (r : List ℕ). codeOf (v .value) ++ r)
-      (d .split ∙ ap (λ (r : List ℕ). codeOf (e .value) ++ r)
-      (f .split ∙ ap (λ k. codeOf k ++ drop (c .next) s) (sym (delay-back (c .value))))))
+  split = λ bytes.
+      a .split bytes ∙ ap (λ (r : List ℕ). codeOf (u .value) ++ r)
+      (b .split bytes ∙ ap (λ (r : List ℕ). codeOf (v .value) ++ r)
+      (d .split bytes ∙ ap (λ (r : List ℕ). codeOf (e .value) ++ r)
+      (f .split bytes ∙ ap (λ k. codeOf k ++ drop (c .next) s) (sym (delay-back (c .value))))))
       ∙ four-codes (u .value) (v .value) (e .value) (delayCode (delayOf (c .value))) (drop (c .next) s);
   fits = f .fits;
   within = record {
@@ -96,17 +98,17 @@ rule-made s at n u v e c p a b d f = record {
   };
 }
 
-pub rule-back : (s : List ℕ) (at n : ℕ) → Bytes s → at ≤ length s → 1 ≤ n → ruleAt s at n .refusal ≤ 0 → RuleHere s at n (ruleAt s at n)
+pub rule-back : (s : List ℕ) (at n : ℕ) → at ≤ length s → 1 ≤ n → ruleAt s at n .refusal ≤ 0 → RuleHere s at n (ruleAt s at n)
 unfolding ruleAt
-rule-back s at n b h p =
+rule-back s at n h p =
     then-split P ruleBad _ (numAt s at 0 (n - 1)) (λ l g. absurd (omega arith)) (λ l.
-    let u = num-back s at 0 (n - 1) b h l in
+    let u = num-back s at 0 (n - 1) h l in
     then-split P ruleBad _ (numAt s _ 0 (n - 1)) (λ l g. absurd (omega arith)) (λ l.
-    let v = num-back s _ 0 (n - 1) b (u .fits) l in
+    let v = num-back s _ 0 (n - 1) (u .fits) l in
     then-split P ruleBad _ (numAt s _ 0 maxOffset) (λ l g. absurd (omega arith)) (λ l.
-    let e = num-back s _ 0 maxOffset b (v .fits) l in
+    let e = num-back s _ 0 maxOffset (v .fits) l in
     then-split P ruleBad _ (numAt s _ 0 (maxDelay + 1)) (λ l g. absurd (omega arith)) (λ l g.
-    rule-made s at n _ _ _ _ p u v e (num-back s _ 0 (maxDelay + 1) b (e .fits) l)))))
+    rule-made s at n _ _ _ _ p u v e (num-back s _ 0 (maxDelay + 1) (e .fits) l)))))
   where
     P : RuleRead → Type 0
     P x = x .refusal ≤ 0 → RuleHere s at n x
@@ -116,7 +118,7 @@ rule-back s at n b h p =
 -- what an accepted reading of `left` rules from rule r on leaves of the table t: u has them, their bytes stand at `at` and end
 -- the file, and every other place is as it was
 pub record RulesHere (s : List ℕ) (n : ℕ) (t : Table) (at r left : ℕ) (u : Table) : Type 0 where
-  pub bytes : drop at s ≡ rulesBytes u r left
+  pub bytes : Bytes s → drop at s ≡ rulesBytes u r left
   pub same-n : u .n ≡ t .n
   pub same-m : u .m ≡ t .m
   pub places : length (u .rules) ≡ length (t .rules)
@@ -138,7 +140,7 @@ rules-back-end s n t at r = by-cases (decLt at (length s)) tail end
     end : ¬ (at < length s) → P (rulesFrom s n t at r 0)
     end l =
         subst⁻¹ P (rules-end s n t at r 0 refl (omega arith)) (λ g. record {
-          bytes = drop-of-length-le s {i = at} (omega arith);
+          bytes = λ _. drop-of-length-le s {i = at} (omega arith);
           same-n = refl;
           same-m = refl;
           places = refl;
@@ -152,7 +154,7 @@ rules-back-more : (s : List ℕ) (n : ℕ) (t : Table) (at r left : ℕ) (x : Ru
     → RulesHere s n (withRule t r (x .rule)) (x .next) (r + 1) left u → RulesHere s n t at r (suc left) u
 unfolding rulesBytes
 rules-back-more s n t at r left x u f a b = record {
-  bytes = a .split ∙ ap (λ (y : Rule). ruleBytes y ++ drop (x .next) s) (sym here) ∙ ap (λ (ys : List ℕ). ruleBytes (ruleOf u r) ++ ys) (b .bytes);
+  bytes = λ bytes. a .split bytes ∙ ap (λ (y : Rule). ruleBytes y ++ drop (x .next) s) (sym here) ∙ ap (λ (ys : List ℕ). ruleBytes (ruleOf u r) ++ ys) (b .bytes bytes);
   same-n = b .same-n;
   same-m = b .same-m;
   places = b .places ∙ length-set (t .rules) r (x .rule);
@@ -172,8 +174,8 @@ RulesRead s n left =
     (t : Table) (at r : ℕ) → at ≤ length s → r + left ≤ length (t .rules)
     → rulesFrom s n t at r left .refusal ≤ 0 → RulesHere s n t at r left (rulesFrom s n t at r left .table)
 
-rules-back-step : (s : List ℕ) (n : ℕ) → Bytes s → 1 ≤ n → (left : ℕ) → RulesRead s n left → RulesRead s n (suc left)
-rules-back-step s n b p left others t at r h f = by-cases (decLt 0 (x .refusal)) stop go
+rules-back-step : (s : List ℕ) (n : ℕ) → 1 ≤ n → (left : ℕ) → RulesRead s n left → RulesRead s n (suc left)
+rules-back-step s n p left others t at r h f = by-cases (decLt 0 (x .refusal)) stop go
   where
     x : RuleRead
     x = ruleAt s at n
@@ -186,15 +188,15 @@ rules-back-step s n b p left others t at r h f = by-cases (decLt 0 (x .refusal))
 
     go : ¬ (0 < x .refusal) → P (rulesFrom s n t at r (suc left))
     go l =
-        let here = rule-back s at n b h p (omega arith) in
+        let here = rule-back s at n h p (omega arith) in
         let k : left ≡ suc left - 1 = omega arith in
         subst⁻¹ P (rules-good s n t at r (suc left) x refl (omega arith) (omega arith))
         (subst (λ m. P (rulesFrom s n (withRule t r (x .rule)) (x .next) (r + 1) m)) k
         (λ g. rules-back-more s n t at r left x _ (omega arith) here (others (withRule t r (x .rule)) (x .next) (r + 1) (here .fits) (simp length-set (omega arith)) g)))
 
-rules-back : (s : List ℕ) (n : ℕ) → Bytes s → 1 ≤ n → (left : ℕ) → RulesRead s n left
-rules-back s n b p zero = λ t at r h f. rules-back-end s n t at r
-rules-back s n b p (suc left) = rules-back-step s n b p left (rules-back s n b p left)
+rules-back : (s : List ℕ) (n : ℕ) → 1 ≤ n → (left : ℕ) → RulesRead s n left
+rules-back s n p zero = λ t at r h f. rules-back-end s n t at r
+rules-back s n p (suc left) = rules-back-step s n p left (rules-back s n p left)
 
 -- ---- a file
 
@@ -211,11 +213,17 @@ file-made s n m u en em e =
     ∙ ap (λ k. codeOf (u .n) ++ (codeOf k ++ rulesBytes u 0 k)) (sym em)
     ∙ sym (file-codes u)
 
-is-file-made : (s : List ℕ) (n m : Num) (u : Table) → NumRead s 0 minN maxN n → NumRead s (n .next) 0 maxM m
-    → RulesHere s (n .value) (sized (n .value) (m .value)) (m .next) 0 (m .value) u → IsFile s u
-is-file-made s n m u a b c = record {
-  bytes = file-made s (n .value) (m .value) u (c .same-n) (c .same-m)
-      (a .split ∙ ap (λ (r : List ℕ). codeOf (n .value) ++ r) (b .split ∙ ap (λ (r : List ℕ). codeOf (m .value) ++ r) (c .bytes)));
+-- what is known of an accepted file s and its table t, whatever the elements of s are
+pub record Accepted (s : List ℕ) (t : Table) : Type 0 where
+  pub bytes : Bytes s → s ≡ fileOf t
+  pub within : Within t
+  pub unused : Unused t
+
+accepted-made : (s : List ℕ) (n m : Num) (u : Table) → NumRead s 0 minN maxN n → NumRead s (n .next) 0 maxM m
+    → RulesHere s (n .value) (sized (n .value) (m .value)) (m .next) 0 (m .value) u → Accepted s u
+accepted-made s n m u a b c = record {
+  bytes = λ bytes. file-made s (n .value) (m .value) u (c .same-n) (c .same-m)
+      (a .split bytes ∙ ap (λ (r : List ℕ). codeOf (n .value) ++ r) (b .split bytes ∙ ap (λ (r : List ℕ). codeOf (m .value) ++ r) (c .bytes bytes)));
   within = record {
     n-low = omega (arith, c .same-n, a .low-ok);
     n-high = omega (arith, c .same-n, a .high-ok);
@@ -228,17 +236,20 @@ is-file-made s n m u a b c = record {
   };
 }
 
--- WHAT IS ACCEPTED IS THE FILE OF ITS TABLE
-pub accepted-is-file : (s : List ℕ) → Bytes s → readOf s .refusal ≡ 0 → IsFile s (readOf s .table)
+pub accepted-read : (s : List ℕ) → readOf s .refusal ≡ 0 → Accepted s (readOf s .table)
 unfolding readOf
-accepted-is-file s b e =
+accepted-read s e =
     then-split P refusedRead _ (numAt s 0 minN maxN) (λ l g. absurd (omega arith)) (λ l.
-    let n = num-back s 0 minN maxN b (omega arith) l in
+    let n = num-back s 0 minN maxN (omega arith) l in
     then-split P refusedRead _ (numAt s _ 0 maxM) (λ l g. absurd (omega arith)) (λ l g.
-    let m = num-back s _ 0 maxM b (n .fits) l in
-    is-file-made s _ _ _ n m
-    (rules-back s _ b (n .low-ok) _ _ _ 0 (m .fits) (omega (arith, m .high-ok, length-replicate maxM unusedRule)) g)))
+    let m = num-back s _ 0 maxM (n .fits) l in
+    accepted-made s _ _ _ n m
+    (rules-back s _ (n .low-ok) _ _ _ 0 (m .fits) (omega (arith, m .high-ok, length-replicate maxM unusedRule)) g)))
     (omega arith)
   where
     P : FileRead → Type 0
-    P x = x .refusal ≤ 0 → IsFile s (x .table)
+    P x = x .refusal ≤ 0 → Accepted s (x .table)
+
+-- WHAT IS ACCEPTED IS THE FILE OF ITS TABLE
+pub accepted-is-file : (s : List ℕ) → Bytes s → readOf s .refusal ≡ 0 → IsFile s (readOf s .table)
+accepted-is-file s b e = let a = accepted-read s e in record { bytes = a .bytes b; within = a .within; unused = a .unused }

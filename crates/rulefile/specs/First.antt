@@ -83,10 +83,10 @@ then-same bad f g x y e h =
 module _ (s : List ℕ) (b : Bytes s) (k : ℕ) where
   -- a number read goes at most so many bytes on
   next-1 : (at low high : ℕ) → at ≤ length s → high < 128 → numAt s at low high .refusal ≤ 0 → (numAt s at low high .next ≤ at + 1) × (numAt s at low high .next ≤ length s)
-  next-1 at low high h u l = let n = num-back s at low high b h l in (omega (arith, n .further, small-code (numAt s at low high .value) (omega (arith, n .high-ok))), n .fits)
+  next-1 at low high h u l = let n = num-back s at low high h l in (omega (arith, n .further b, small-code (numAt s at low high .value) (omega (arith, n .high-ok))), n .fits)
 
   next-2 : (at low high : ℕ) → at ≤ length s → high < 16384 → numAt s at low high .refusal ≤ 0 → (numAt s at low high .next ≤ at + 2) × (numAt s at low high .next ≤ length s)
-  next-2 at low high h u l = let n = num-back s at low high b h l in (omega (arith, n .further, middle-code (numAt s at low high .value) (omega (arith, n .high-ok))), n .fits)
+  next-2 at low high h u l = let n = num-back s at low high h l in (omega (arith, n .further b, middle-code (numAt s at low high .value) (omega (arith, n .high-ok))), n .fits)
 
   rule-take : (at n : ℕ) → at ≤ length s → n ≤ maxN → at + 8 ≤ k → ruleAt (take k s) at n ≡ ruleAt s at n
   unfolding ruleAt
@@ -101,12 +101,12 @@ module _ (s : List ℕ) (b : Bytes s) (k : ℕ) where
 
   rule-next : (at n : ℕ) → at ≤ length s → 1 ≤ n → n ≤ maxN → ruleAt s at n .refusal ≤ 0 → (ruleAt s at n .next ≤ at + 8) × (ruleAt s at n .next ≤ length s)
   rule-next at n h p u l =
-      let x = rule-back s at n b h p l in (
+      let x = rule-back s at n h p l in (
         omega (
           arith,
           x .fits,
           rule-length n (ruleAt s at n .rule) u (x .within),
-          ap length (x .split),
+          ap length (x .split b),
           length-drop at s,
           length-drop (ruleAt s at n .next) s,
           length-append (ruleBytes (ruleAt s at n .rule)) (drop (ruleAt s at n .next) s),
@@ -138,9 +138,9 @@ pub first-bytes : (s : List ℕ) (k : ℕ) → Bytes s → longest + 1 ≤ k →
 unfolding readOf
 first-bytes s k b f =
     then-same refusedRead _ _ _ _ (num-take s k 0 minN maxN (omega arith) (omega arith)) (λ l1.
-    let n = num-back s 0 minN maxN b (omega arith) l1 in
+    let n = num-back s 0 minN maxN (omega arith) l1 in
     let a = next-2 s b k 0 minN maxN (omega arith) (omega arith) l1 in
     then-same refusedRead _ _ _ _ (num-take s k _ 0 maxM (a .1) (omega arith)) (λ l2.
-    let m = num-back s _ 0 maxM b (a .1) l2 in
+    let m = num-back s _ 0 maxM (a .1) l2 in
     let c = next-2 s b k _ 0 maxM (a .1) (omega arith) l2 in
     rules-take s b k _ _ (n .low-ok) (n .high-ok) _ _ 0 (c .1) (omega (arith, m .high-ok))))

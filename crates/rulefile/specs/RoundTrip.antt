@@ -31,7 +31,7 @@ use Rattle.rulefile.specs.declared.Written.{Written}
 use Rattle.rulefile.specs.File.{fileOf, numAt, ruleAt, refusedRead, acceptedRead, rulesFrom, readOf, writtenAs, Writes}
 use Rattle.rulefile.specs.Steps.{then-split, rules-bad, rules-good, rules-tail, rules-end}
 use Rattle.rulefile.specs.Length.{longest, file-length}
-use Rattle.rulefile.specs.Accepted.{IsFile, accepted-is-file}
+use Rattle.rulefile.specs.Accepted.{IsFile, accepted-read, accepted-is-file}
 use Rattle.rulefile.specs.Coded.{tidied, file-read, tidied-same, tidied-unused}
 
 -- ---- reading
@@ -47,8 +47,9 @@ accepted-iff s t b = (
   (λ f. ap readOf (f .bytes) ∙ file-accepted t (f .within) (f .unused)),
 )
 
-pub read-within : (s : List ℕ) → Bytes s → readOf s .refusal ≡ 0 → Within (readOf s .table)
-read-within s b e = accepted-is-file s b e .within
+-- AN ACCEPTED TABLE IS WITHIN ITS LIMITS
+pub read-within : (s : List ℕ) → readOf s .refusal ≡ 0 → Within (readOf s .table)
+read-within s e = accepted-read s e .within
 
 abbrev Empties : FileRead → Type 0
 Empties x = 0 < x .refusal → x .table ≡ emptyTable
@@ -75,11 +76,11 @@ refused-empty s =
     rules-empty s _ _ _ _ 0))
 
 -- EVERY TABLE HANDED BACK HAS ITS UNUSED PLACES IN THEIR FORM
-pub read-unused : (s : List ℕ) → Bytes s → Unused (readOf s .table)
-read-unused s b =
+pub read-unused : (s : List ℕ) → Unused (readOf s .table)
+read-unused s =
     by-cases (decLt 0 (readOf s .refusal))
     (λ h. subst⁻¹ Unused (refused-empty s h) (sized-unused 0 0))
-    (λ h. accepted-is-file s b (omega arith) .unused)
+    (λ h. accepted-read s (omega arith) .unused)
 
 -- NO ACCEPTED FILE IS LONGER
 pub accepted-length : (s : List ℕ) → Bytes s → readOf s .refusal ≡ 0 → length s ≤ longest

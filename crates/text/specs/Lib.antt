@@ -1,0 +1,5 @@
+pub mod Decimal
+pub mod Puts
+pub mod Text
+pub mod Made
+pub mod Example

@@ -1,0 +1,140 @@
+-- The text that the program prints for a rule file. To be read beside the paper's "The program".
+--
+--   newline             what ends a line
+--   ratio p q           `P/Q`
+--   refusedLine f p     `refused F at P`
+--   exactLine p q       `period P/Q exact`
+--   rangeLine p q p′ q′ `period from P/Q to P/Q`
+--   listLine name xs    a name, then numbers
+--   answerText a        the four lines of an answer
+--   verdictText v       the text for the verdict v on a table: its answer, or its refusal with the paper's number
+--   TableText t x       x is the text for the table t
+--   ReadText f x        x is the text for what was read of a file
+--   FileText s x        x is the text for the file s
+--   Holds r x           r holds the whole of x
+--   ReportOf s r        THE PROMISE of `report`: r holds the text for the file s
+--
+-- Theorems: text-unique, report-unique (one outcome), report-first (the first bytes of a file decide), report-part (where the text stands).
+use mathlib.Core.Path.{_≡_, sym, ap, _∙_, subst}
+use mathlib.Core.Logic.{by-cases}
+use mathlib.Core.List.{List, [], _∷_, _++_}
+use Prim.Native.Nat.{ℕ, _+_, _-_, _≤_, _<_}
+use native.Mathlib.Omega.{arith}
+use native.Mathlib.Decide.{decLt}
+use lib.ListN.{length, take, replicate, length-append}
+use lib.Seq.{take-append-seam}
+use Rattle.model.specs.Answer.{Answer}
+use Rattle.sevens.specs.Sevens.{Bytes}
+use Rattle.table.specs.declared.Table.{Table}
+use Rattle.rulefile.specs.declared.FileRead.{FileRead}
+use Rattle.rulefile.specs.File.{readOf}
+use Rattle.rulefile.specs.Length.{longest}
+use Rattle.rulefile.specs.First.{first-bytes}
+use Rattle.engine.specs.Verdict.{Verdict, outside, knotted, flat, wide, found, Judges, verdict-unique}
+use Rattle.text.specs.declared.Text.{Text}
+use Rattle.text.specs.Decimal.{ascii, pick, decimal, numbers}
+
+-- ------------------------------------------------------------------------------------------------------------------------------------ the lines
+
+abbrev pub newline : List ℕ
+newline = ascii "\n"
+
+abbrev pub ratio : ℕ → ℕ → List ℕ
+ratio p q = decimal p ++ (ascii "/" ++ decimal q)
+
+abbrev pub refusedLine : ℕ → ℕ → List ℕ
+refusedLine f p = ascii "refused " ++ (decimal f ++ (ascii " at " ++ (decimal p ++ newline)))
+
+abbrev pub exactLine : ℕ → ℕ → List ℕ
+exactLine p q = ascii "period " ++ (ratio p q ++ (ascii " exact" ++ newline))
+
+abbrev pub rangeLine : ℕ → ℕ → ℕ → ℕ → List ℕ
+rangeLine p q p′ q′ = ascii "period from " ++ (ratio p q ++ (ascii " to " ++ (ratio p′ q′ ++ newline)))
+
+-- a name, then numbers, each after a space
+abbrev pub listLine : List ℕ → List ℕ → List ℕ
+listLine name xs = name ++ (numbers xs ++ newline)
+
+-- ------------------------------------------------------------------------------------------------------------------------------------- the text
+
+-- line 1: the period where it is exact, else its two ends
+abbrev pub periodLine : Answer → List ℕ
+periodLine a = pick (a .exact) (exactLine (a .highP) (a .highQ)) (rangeLine (a .lowP) (a .lowQ) (a .highP) (a .highQ))
+
+-- then the rule numbers of the low and of the high loop, and Q of the high end with X of each transition
+abbrev pub answerText : Answer → List ℕ
+answerText a =
+    periodLine a
+    ++ (listLine (ascii "low") (a .lowLoop)
+    ++ (listLine (ascii "high") (a .highLoop)
+    ++ listLine (ascii "schedule") (a .highQ ∷ a .schedule)))
+
+-- a refusal is one line
+abbrev pub verdictText : Verdict → List ℕ
+verdictText (outside k) = refusedLine 3 k
+verdictText (knotted u) = refusedLine 5 u
+verdictText flat = refusedLine 6 0
+verdictText wide = refusedLine 11 0
+verdictText (found a) = answerText a
+
+-- the text for the table t is that for the verdict on it
+pub record TableText (t : Table) (x : List ℕ) : Type 0 where
+  pub verdict : Verdict
+  pub judged : Judges t verdict
+  pub result : x ≡ verdictText verdict
+
+-- what was read of a file: refused, it has that refusal's text, and else the text for its table
+pub record ReadText (f : FileRead) (x : List ℕ) : Type 0 where
+  pub refused : 0 < f .refusal → x ≡ refusedLine (f .refusal) (f .place)
+  pub accepted : f .refusal ≤ 0 → TableText (f .table) x
+
+abbrev pub FileText : List ℕ → List ℕ → Type 0
+FileText s x = ReadText (readOf s) x
+
+-- ---------------------------------------------------------------------------------------------------------------------------------- the promise
+
+-- more bytes than a text has
+abbrev pub room : ℕ
+room = 16384
+
+-- all of x is in r, with its length, and zeros after it
+pub record Holds (r : Text) (x : List ℕ) : Type 0 where
+  pub fits : length x ≤ room
+  pub result : r ≡ record { len = length x; bytes = x ++ replicate (room - length x) 0 }
+
+pub record ReportOf (s : List ℕ) (r : Text) : Type 0 where
+  pub text : List ℕ
+  pub is-text : FileText s text
+  pub is-held : Holds r text
+
+-- ------------------------------------------------------------------------------------------------------------------------------------- theorems
+
+-- ONE TEXT FOR A FILE
+pub text-unique : (s x y : List ℕ) → FileText s x → FileText s y → x ≡ y
+text-unique s x y a b =
+    by-cases (decLt 0 (readOf s .refusal))
+    (λ l. a .refused l ∙ sym (b .refused l))
+    (λ l.
+    let p = a .accepted (omega arith) in
+    let q = b .accepted (omega arith) in
+    p .result ∙ ap verdictText (verdict-unique (readOf s .table) (p .verdict) (q .verdict) (p .judged) (q .judged)) ∙ sym (q .result))
+
+-- ONLY ONE OUTCOME
+pub report-unique : (s : List ℕ) (r r′ : Text) → ReportOf s r → ReportOf s r′ → r ≡ r′
+report-unique s r r′ a b =
+    a .is-held .result
+    ∙ ap (λ (x : List ℕ). record { len = length x; bytes = x ++ replicate (room - length x) 0 }) (text-unique s (a .text) (b .text) (a .is-text) (b .is-text))
+    ∙ sym (b .is-held .result)
+
+-- THE FIRST BYTES DECIDE: the report on `longest + 1` bytes of a file, or more, is the report on the whole file
+pub report-first : (s : List ℕ) (k : ℕ) → Bytes s → longest + 1 ≤ k → (r : Text) → ReportOf (take k s) r → ReportOf s r
+report-first s k b h r a =
+    record { text = a .text; is-text = subst (λ (f : FileRead). ReadText f (a .text)) (first-bytes s k b h) (a .is-text); is-held = a .is-held }
+
+-- THE TEXT IS THE FIRST `len` BYTES, and these are there
+pub report-part : (s : List ℕ) (r : Text) (a : ReportOf s r) → (r .len ≤ length (r .bytes)) × (r .len ≡ length (take (r .len) (r .bytes))) × (take (r .len) (r .bytes) ≡ a .text)
+report-part s r a =
+    let x = a .text in
+    let zeros = replicate {A = ℕ} (room - length x) 0 in
+    subst (λ (h : Text). (h .len ≤ length (h .bytes)) × (h .len ≡ length (take (h .len) (h .bytes))) × (take (h .len) (h .bytes) ≡ x)) (sym (a .is-held .result))
+    (omega (arith, length-append x zeros), sym (ap length (take-append-seam x zeros)), take-append-seam x zeros)
