@@ -2,7 +2,7 @@
 --
 --   Puts s out at after next     the bytes s were put into `out` from the place `at` on: `after` is the buffer then, and `next` the place behind them
 --
--- Laws: puts-none, puts-then (one run after another), puts-length, puts-most.
+-- Laws: puts-none, puts-full, puts-then (one run after another), puts-length, puts-same, puts-next (a turn of a loop), puts-whole (what a fresh buffer holds).
 use mathlib.Core.Path.{_≡_, refl, ap, sym, _∙_}
 use mathlib.Core.Logic.{by-cases}
 use mathlib.Core.List.{List, [], _∷_, _++_}
@@ -30,10 +30,7 @@ sets-append out at (x ∷ s) t = sets-append (set out at x) (suc at) s t ∙ ap 
 pub puts-none : (out : List ℕ) (at : ℕ) → Puts [] out at out at
 puts-none out at = record { bytes = refl; place = omega arith }
 
--- one byte, where there is room and where there is none
-pub puts-byte : (b : ℕ) (out : List ℕ) (at : ℕ) → at < length out → Puts (b ∷ []) out at (set out at b) (at + 1)
-puts-byte b out at h = record { bytes = refl; place = omega arith }
-
+-- one byte, where there is no room
 pub puts-full : (b : ℕ) (out : List ℕ) (at : ℕ) → length out ≤ at → Puts (b ∷ []) out at out at
 puts-full b out at h = record { bytes = sym (set-out out at b h); place = omega arith }
 

@@ -1,12 +1,11 @@
-use Prim.Native.Nat.{ℕ, suc, _+_, _*_, _-_, _≤_, _<_, _/_}
-use mathlib.Core.Path.{_≡_, refl, ap, sym, _∙_}
-use lib.ListN.{length, getD, take, drop, set}
+-- `text::put::digits` meets its contract: the tens, then the last digit. It calls itself: the measure is the number. Assumes nothing.
+use Prim.Native.Nat.{ℕ, _+_, _/_, _<_}
+use mathlib.Core.Path.{ap, sym, _∙_}
 use native.Mathlib.Omega.{arith}
 use mathlib.Core.List.{[], _∷_, _++_}
 use Rattle.text.specs.Decimal.{decimal, decimal-one, decimal-more}
-use Rattle.text.specs.Puts.{puts-then, puts-length, puts-same}
+use Rattle.text.specs.Puts.{puts-then, puts-same}
 use borrow.Author.Needs.{needs}
-use Prim.Native.Nat.{ℕ, _<_}
 use borrow.Fn.Kinds.{In}
 use borrow.Fn.PlainCycle.{Measures, is, falls, and}
 use Rattle.text.proofs.put.digits.Reads as digits
@@ -26,7 +25,6 @@ digits-at t = and 1 digits-kinds.ps (is 1 digits-kinds.ps μ-digits t) digits.Pr
 abbrev digits-below : ℕ → In 1 digits-kinds.ps
 digits-below t = and 1 digits-kinds.ps (falls 1 digits-kinds.ps _<_ μ-digits t) digits.Pre
 
--- src/put.rt:44:21
 digits-digit-requires : (t : ℕ) → digits-lts.Need-digit-requires (
   digit-reads.Asked,
   digit-reads.Learnt,
@@ -37,7 +35,6 @@ digits-digit-requires : (t : ℕ) → digits-lts.Need-digit-requires (
 ) (digits-at t) digits.Post
 digits-digit-requires t c κs = omega arith
 
--- src/put.rt:44:9
 digits-byte-requires : (t : ℕ) → digits-lts.Need-byte-requires (
   digit-reads.Asked,
   digit-reads.Learnt,
@@ -48,7 +45,6 @@ digits-byte-requires : (t : ℕ) → digits-lts.Need-byte-requires (
 ) (digits-at t) digits.Post
 digits-byte-requires t c κs = search needs
 
--- src/put.rt:44:9
 digits-same-length : (t : ℕ) → digits-lts.Need-same-length (
   digit-reads.Asked,
   digit-reads.Learnt,
@@ -59,7 +55,6 @@ digits-same-length : (t : ℕ) → digits-lts.Need-same-length (
 ) (digits-at t) digits.Post
 digits-same-length t c = search needs
 
--- src/put.rt:44:9
 digits-returns : (t : ℕ) → digits-lts.Need-returns (
   digit-reads.Asked,
   digit-reads.Learnt,
@@ -70,7 +65,6 @@ digits-returns : (t : ℕ) → digits-lts.Need-returns (
 ) (digits-at t) digits.Post
 digits-returns t c = puts-same (ap (λ (b : ℕ). b ∷ []) (c .before .before .before .before .digit .ensures) ∙ sym (decimal-one _ (c .before .before .before .before .before .if1 .taken))) (c .before .before .byte .ensures)
 
--- src/put.rt:46:9
 digits-digits-requires : (t : ℕ) → digits-lts.Need-digits-requires (
   digit-reads.Asked,
   digit-reads.Learnt,
@@ -81,7 +75,6 @@ digits-digits-requires : (t : ℕ) → digits-lts.Need-digits-requires (
 ) (digits-at t) digits.Post
 digits-digits-requires t c κs = omega arith
 
--- src/put.rt:47:10
 digits-digit-requires-2 : (t : ℕ) → digits-lts.Need-digit-requires-2 (
   digit-reads.Asked,
   digit-reads.Learnt,
@@ -92,7 +85,6 @@ digits-digit-requires-2 : (t : ℕ) → digits-lts.Need-digit-requires-2 (
 ) (digits-at t) digits.Post
 digits-digit-requires-2 t c κs = omega arith
 
--- src/put.rt:47:5
 digits-byte-requires-2 : (t : ℕ) → digits-lts.Need-byte-requires-2 (
   digit-reads.Asked,
   digit-reads.Learnt,
@@ -103,7 +95,6 @@ digits-byte-requires-2 : (t : ℕ) → digits-lts.Need-byte-requires-2 (
 ) (digits-at t) digits.Post
 digits-byte-requires-2 t c κs = search needs
 
--- src/put.rt:40:1
 digits-same-length-2 : (t : ℕ) → digits-lts.Need-same-length-2 (
   digit-reads.Asked,
   digit-reads.Learnt,
@@ -114,7 +105,6 @@ digits-same-length-2 : (t : ℕ) → digits-lts.Need-same-length-2 (
 ) (digits-at t) digits.Post
 digits-same-length-2 t c = search needs
 
--- src/put.rt:40:1
 digits-returns-2 : (t : ℕ) → digits-lts.Need-returns-2 (
   digit-reads.Asked,
   digit-reads.Learnt,

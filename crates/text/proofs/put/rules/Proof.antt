@@ -1,6 +1,8 @@
-use Prim.Native.Nat.{ℕ, suc, _+_, _*_, _-_, _≤_, _<_}
-use mathlib.Core.Path.{_≡_, refl, ap, sym, _∙_}
-use lib.ListN.{length, getD, take, drop, set}
+-- `text::put::rules` meets its contract: a loop over its numbers.
+-- Invariant: the first i numbers are put, in at most 21 bytes each. The measure is how many are left. Assumes nothing.
+use Prim.Native.Nat.{ℕ, _+_, _*_, _-_, _≤_}
+use mathlib.Core.Path.{ap}
+use lib.ListN.{length, take}
 use native.Mathlib.Omega.{arith}
 use mathlib.Core.List.{[], _∷_}
 use lib.Seq.{take-all}
@@ -9,10 +11,6 @@ use Rattle.text.specs.Puts.{Puts, puts-none, puts-next, puts-length, put
 use borrow.Author.Needs.{needs}
 use Rattle.text.proofs.put.rules.Statement.{statement}
 use Rattle.text.proofs.put.rules.Tie as tie
-use Rattle.text.proofs.put.rules.Reads as reads
-use Rattle.text.proofs.put.rules.Lts as lts
-use Rattle.text.proofs.put.number.Reads as number-reads
-use Rattle.text.proofs.put.wide.Reads as wide-reads
 
 abbrev Inv-loop : tie.InvT-loop
 Inv-loop xs out₀ at next₀ i₀ out next i = (i ≤ length xs) × Puts (numbers (take i xs)) out₀ at out next × (next ≤ at + 21 * i)
@@ -20,35 +18,27 @@ Inv-loop xs out₀ at next₀ i₀ out next i = (i ≤ length xs) × Puts (numbe
 abbrev μ-loop : tie.MeasureT-loop
 μ-loop xs out₀ at next₀ i₀ out next i = length xs - i
 
--- src/put.rt:90:5
 loop-holds : tie.Need-loop-holds Inv-loop μ-loop
 loop-holds c = (omega arith, puts-none _ _, omega arith)
 
--- src/put.rt:91:28
 mul-wide : tie.Need-mul-wide Inv-loop μ-loop
 mul-wide c = omega arith
 
--- src/put.rt:91:28
 shared-slice-read-wide : tie.Need-shared-slice-read-wide Inv-loop μ-loop
 shared-slice-read-wide c = omega arith
 
--- src/put.rt:91:23
 wide-requires : tie.Need-wide-requires Inv-loop μ-loop
 wide-requires c κs = search needs
 
--- src/put.rt:91:9
 number-requires : tie.Need-number-requires Inv-loop μ-loop
 number-requires c κs = search needs
 
--- src/put.rt:92:9
 add-i : tie.Need-add-i Inv-loop μ-loop
 add-i c = omega arith
 
--- src/put.rt:90:5
 loop-less : tie.Need-loop-less Inv-loop μ-loop
 loop-less c = omega arith
 
--- src/put.rt:90:5
 loop-again : tie.Need-loop-again Inv-loop μ-loop
 loop-again c =
     let l = c .before .before .before .before .before .before .before in
@@ -56,11 +46,9 @@ loop-again c =
     let sum = c .before .before .number .ensures .1 in
     (omega arith, puts-next numbers xs (l .loop .i) (λ x. numbers-append (take (l .loop .i) xs) (x ∷ [])) (omega arith) (l .loop .inv .1) (puts-same (ap (λ (x : ℕ). numbers (x ∷ [])) (c .before .before .before .before .wide .ensures)) (c .before .before .number .ensures .0)), omega arith)
 
--- src/put.rt:85:1
 same-length : tie.Need-same-length Inv-loop μ-loop
 same-length c = puts-length (c .before .loop .inv .1)
 
--- src/put.rt:85:1
 returns : tie.Need-returns Inv-loop μ-loop
 returns c =
     let l = c .before in

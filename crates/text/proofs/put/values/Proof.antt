@@ -1,6 +1,8 @@
-use Prim.Native.Nat.{ℕ, suc, _+_, _*_, _-_, _≤_, _<_}
-use mathlib.Core.Path.{_≡_, refl, ap, sym, _∙_}
-use lib.ListN.{length, getD, take, drop, set}
+-- `text::put::values` meets its contract: a loop over its numbers.
+-- Invariant: the first i numbers are put, in at most 21 bytes each. The measure is how many are left. Assumes nothing.
+use Prim.Native.Nat.{_+_, _*_, _-_, _≤_}
+use mathlib.Core.Path.{ap}
+use lib.ListN.{length, take}
 use native.Mathlib.Omega.{arith}
 use mathlib.Core.List.{[], _∷_}
 use lib.Seq.{take-all}
@@ -9,9 +11,6 @@ use Rattle.text.specs.Puts.{Puts, puts-none, puts-next, puts-length, put
 use borrow.Author.Needs.{needs}
 use Rattle.text.proofs.put.values.Statement.{statement}
 use Rattle.text.proofs.put.values.Tie as tie
-use Rattle.text.proofs.put.values.Reads as reads
-use Rattle.text.proofs.put.values.Lts as lts
-use Rattle.text.proofs.put.number.Reads as number-reads
 
 abbrev Inv-loop : tie.InvT-loop
 Inv-loop xs out₀ at next₀ i₀ out next i = (i ≤ length xs) × Puts (numbers (take i xs)) out₀ at out next × (next ≤ at + 21 * i)
@@ -19,31 +18,24 @@ Inv-loop xs out₀ at next₀ i₀ out next i = (i ≤ length xs) × Puts (numbe
 abbrev μ-loop : tie.MeasureT-loop
 μ-loop xs out₀ at next₀ i₀ out next i = length xs - i
 
--- src/put.rt:71:5
 loop-holds : tie.Need-loop-holds Inv-loop μ-loop
 loop-holds c = (omega arith, puts-none _ _, omega arith)
 
--- src/put.rt:72:23
 mul-number : tie.Need-mul-number Inv-loop μ-loop
 mul-number c = omega arith
 
--- src/put.rt:72:23
 shared-slice-read-number : tie.Need-shared-slice-read-number Inv-loop μ-loop
 shared-slice-read-number c = omega arith
 
--- src/put.rt:72:9
 number-requires : tie.Need-number-requires Inv-loop μ-loop
 number-requires c κs = search needs
 
--- src/put.rt:73:9
 add-i : tie.Need-add-i Inv-loop μ-loop
 add-i c = omega arith
 
--- src/put.rt:71:5
 loop-less : tie.Need-loop-less Inv-loop μ-loop
 loop-less c = omega arith
 
--- src/put.rt:71:5
 loop-again : tie.Need-loop-again Inv-loop μ-loop
 loop-again c =
     let l = c .before .before .before .before .before .before in
@@ -51,11 +43,9 @@ loop-again c =
     let sum = c .before .before .number .ensures .1 in
     (omega arith, puts-next numbers xs (l .loop .i) (λ x. numbers-append (take (l .loop .i) xs) (x ∷ [])) (omega arith) (l .loop .inv .1) (c .before .before .number .ensures .0), omega arith)
 
--- src/put.rt:66:1
 same-length : tie.Need-same-length Inv-loop μ-loop
 same-length c = puts-length (c .before .loop .inv .1)
 
--- src/put.rt:66:1
 returns : tie.Need-returns Inv-loop μ-loop
 returns c =
     let l = c .before in
