@@ -1,0 +1,4 @@
+pub mod Columns
+pub mod Promise
+pub mod Steps
+pub mod Laws

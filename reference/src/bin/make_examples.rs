@@ -1,0 +1,152 @@
+//! Writes the folder of examples: for each a rule file (.rules), its text form
+//! with a line that says what it shows (.txt), and what `report` prints
+//! (.expected).
+//!
+//! Run in the package's folder: cargo run --release --bin make_examples
+
+use std::fs;
+use std::io;
+use std::path::Path;
+
+use reference::file;
+use reference::notation;
+use reference::report::report;
+use reference::table::Table;
+use reference::vectors;
+
+/// Name, what it shows, the table.
+const WORKED: [(&str, &str, &str); 8] = [
+    (
+        "p1",
+        "P1: one loop; its delays add up to the period",
+        "n 2: 0>1/0/3, 1>0/1/4",
+    ),
+    (
+        "p2",
+        "P2: offset 2, so the period is a fraction",
+        "n 2: 0>1/0/3, 1>0/2/4",
+    ),
+    (
+        "p3",
+        "P3: a blank on the only loop gives a range",
+        "n 2: 0>1/0/3, 1>0/1/?",
+    ),
+    (
+        "p4",
+        "P4: a blank that cannot matter; the answer is exact",
+        "n 2: 0>1/0/0, 1>0/2/?, 0>0/1/1000000",
+    ),
+    (
+        "p5",
+        "P5: nothing but a blank; the widest range",
+        "n 1: 0>0/1/?",
+    ),
+    ("p6", "P6: the period is zero, written 0/1", "n 1: 0>0/1/0"),
+    (
+        "p7",
+        "P7: a loop with offset sum 0 is refused",
+        "n 1: 0>0/0/0",
+    ),
+    (
+        "p8",
+        "P8: no loop, refused; simulated twice: 0 0 0 5",
+        "n 2: 0>1/1/5",
+    ),
+];
+
+/// Name, the published case, what it shows.
+const PUBLISHED: [(&str, &str, &str); 8] = [
+    (
+        "ring-oscillator",
+        "B-2.3-ring-oscillator",
+        "A ring of three inverters; the six delays add up to the period",
+    ),
+    (
+        "c-element",
+        "B-2.4-c-element-tie",
+        "A C-element; four loops are equally slow, and the tie is settled",
+    ),
+    (
+        "c-element-blank",
+        "B-2.4-c-element-blank-range",
+        "The C-element with one unknown delay; low and high loop differ",
+    ),
+    (
+        "d-element",
+        "B-4.1-D-element",
+        "A D-element; eight transitions in one loop",
+    ),
+    (
+        "fifo-stage",
+        "B-6-fifo-pa",
+        "A FIFO stage among its neighbours, row pa of the table",
+    ),
+    (
+        "microprocessor",
+        "B-6.2-microprocessor-memory",
+        "The control processes of a microprocessor; 88 transitions",
+    ),
+    (
+        "two-offsets",
+        "K-4.4",
+        "A loop with offset sum 2; the schedule is multiplied by 2",
+    ),
+    (
+        "pipeline-ring",
+        "P-1.1-ring-5",
+        "A ring of five pipeline stages; the period has denominator 3",
+    ),
+];
+
+fn main() -> io::Result<()> {
+    let folder = Path::new("../examples");
+    fs::create_dir_all(folder)?;
+    for (name, shows, text) in WORKED {
+        let table = notation::parse(text).expect("the notation is sound");
+        write_example(folder, name, &format!("# {shows}.\n"), &table)?;
+    }
+    let cases = vectors::parse(include_str!("../../tests/vectors.txt"));
+    for (name, case, shows) in PUBLISHED {
+        let found = cases.iter().find(|known| known.name == case);
+        let case = found.expect("the published case exists");
+        let heading = format!(
+            "# {shows}.\n# From {}.\n{}",
+            case.origin,
+            names(&case.names)
+        );
+        write_example(folder, name, &heading, &case.table)?;
+    }
+    Ok(())
+}
+
+fn write_example(folder: &Path, name: &str, heading: &str, table: &Table) -> io::Result<()> {
+    let bytes = file::write(table);
+    let text = format!("{heading}{}", wrapped(&notation::write(table)));
+    fs::write(folder.join(name).with_extension("rules"), &bytes)?;
+    fs::write(folder.join(name).with_extension("txt"), text)?;
+    fs::write(folder.join(name).with_extension("expected"), report(&bytes))
+}
+
+/// The names of the transitions as a comment, so that a reader can tell 3 from 5.
+fn names(names: &str) -> String {
+    let numbered = names.split(' ').enumerate();
+    let list: Vec<String> = numbered.map(|(v, name)| format!("{v} {name}")).collect();
+    let text = wrapped(&format!("transitions: {}", list.join(", ")));
+    text.lines().map(|line| format!("# {line}\n")).collect()
+}
+
+/// Broken after commas, so that lines stay short.
+fn wrapped(text: &str) -> String {
+    let mut lines = String::new();
+    let mut width = 0;
+    for part in text.split_inclusive(", ") {
+        if width > 0 && width + part.len() > 76 {
+            lines.truncate(lines.trim_end().len());
+            lines.push('\n');
+            width = 0;
+        }
+        lines.push_str(part);
+        width += part.len();
+    }
+    lines + "\n"
+}
