@@ -144,7 +144,7 @@ fn rate_numbers(r: face::PeriodRate) -> Vec<u64> {
     ]
 }
 
-fn analyse(c: &Columns, room: [usize; 3]) -> Outcome {
+pub fn analyse(c: &Columns, room: [usize; 3]) -> Outcome {
     let mut schedule = filled::<u64>(room[0]);
     let mut low = filled::<u32>(room[1]);
     let mut high = filled::<u32>(room[2]);
@@ -164,7 +164,7 @@ fn analyse(c: &Columns, room: [usize; 3]) -> Outcome {
     }
 }
 
-fn file_analyse(bytes: &[u8], room: [usize; 3]) -> Outcome {
+pub fn file_analyse(bytes: &[u8], room: [usize; 3]) -> Outcome {
     let mut schedule = filled::<u64>(room[0]);
     let mut low = filled::<u32>(room[1]);
     let mut high = filled::<u32>(room[2]);
@@ -187,14 +187,14 @@ fn file_analyse(bytes: &[u8], room: [usize; 3]) -> Outcome {
     }
 }
 
-fn rate(c: &Columns, v: usize) -> Outcome {
+pub fn rate(c: &Columns, v: usize) -> Outcome {
     Outcome {
         numbers: rate_numbers(with_columns!(period_rate, c, v)),
         buffers: vec![],
     }
 }
 
-fn file_rate(bytes: &[u8], v: usize) -> Outcome {
+pub fn file_rate(bytes: &[u8], v: usize) -> Outcome {
     // SAFETY: the pointer stands beside the length of the slice it came from.
     let r = unsafe { face::period_file_rate(bytes.as_ptr(), bytes.len(), v) };
     Outcome {
@@ -203,7 +203,7 @@ fn file_rate(bytes: &[u8], v: usize) -> Outcome {
     }
 }
 
-fn simulate(c: &Columns, occurrences: usize, room: usize) -> Outcome {
+pub fn simulate(c: &Columns, occurrences: usize, room: usize) -> Outcome {
     let mut times = filled::<u64>(room);
     let r = with_columns!(
         period_simulate,
@@ -218,7 +218,7 @@ fn simulate(c: &Columns, occurrences: usize, room: usize) -> Outcome {
     }
 }
 
-fn file_simulate(bytes: &[u8], occurrences: usize, room: usize) -> Outcome {
+pub fn file_simulate(bytes: &[u8], occurrences: usize, room: usize) -> Outcome {
     let mut times = filled::<u64>(room);
     // SAFETY: each pointer stands beside the length of the slice it came from.
     let r = unsafe {
@@ -236,7 +236,7 @@ fn file_simulate(bytes: &[u8], occurrences: usize, room: usize) -> Outcome {
     }
 }
 
-fn write(c: &Columns, room: usize) -> Outcome {
+pub fn write(c: &Columns, room: usize) -> Outcome {
     let mut out = filled::<u8>(room);
     let r = with_columns!(period_write, c, out.as_mut_ptr(), out.len());
     Outcome {
@@ -256,7 +256,7 @@ fn report(bytes: &[u8], room: usize) -> Outcome {
     }
 }
 
-fn read(bytes: &[u8], room: [usize; 5]) -> Outcome {
+pub fn read(bytes: &[u8], room: [usize; 5]) -> Outcome {
     let mut source = filled::<u16>(room[0]);
     let mut target = filled::<u16>(room[1]);
     let mut offset = filled::<u16>(room[2]);
@@ -291,7 +291,7 @@ fn read(bytes: &[u8], room: [usize; 5]) -> Outcome {
     }
 }
 
-fn number(bytes: &[u8], low: u32, high: u32) -> Outcome {
+pub fn number(bytes: &[u8], low: u32, high: u32) -> Outcome {
     // SAFETY: the pointer stands beside the length of the slice it came from.
     let r = unsafe { face::period_number(bytes.as_ptr(), bytes.len(), low, high) };
     Outcome {

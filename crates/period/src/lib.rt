@@ -153,7 +153,7 @@ pub fn rate(t: Table, v: usize) -> Rated
     if n <= v {
         return unrated(NAME, n);
     }
-    if 0 < lap.refusal {
+    if lap.refusal != 0 {
         return unrated(lap.refusal, lap.place);
     }
     let least = lap.low;

@@ -37,11 +37,11 @@ unrated-requires-3 c κs = search needs
 
 -- src/lib.rt:164:9
 returns-3 : tie.Need-returns-3
-returns-3 c = rated-refused _ _ (c .before .before .before .before .before .before .measure .ensures) _ _ (c .before .before .before .before .if1 .left) (c .before .before .before .if2 .left) (c .before .if3 .taken) (c .unrated3 .ensures)
+returns-3 c = rated-refused _ _ (c .before .before .before .before .before .before .measure .ensures) _ _ (c .before .before .before .before .if1 .left) (c .before .before .before .if2 .left) (omega (arith, c .before .if3 .taken)) (c .unrated3 .ensures)
 
 -- src/lib.rt:152:1
 returns-4 : tie.Need-returns-4
-returns-4 c = rated-found _ _ (c .before .before .before .before .before .before .before .measure .ensures) _ (c .before .before .before .before .before .if1 .left) (c .before .before .before .before .if2 .left) (c .before .before .if3 .left)
+returns-4 c = rated-found _ _ (c .before .before .before .before .before .before .before .measure .ensures) _ (c .before .before .before .before .before .if1 .left) (c .before .before .before .before .if2 .left) (omega (arith, c .before .before .if3 .left))
 
 pub rate-spec : {M : Type 1} → statement M
 rate-spec =
