@@ -1,44 +1,31 @@
-use Prim.Native.Nat.{ℕ, suc, _+_, _*_, _-_, _≤_, _<_}
-use mathlib.Core.Path.{_≡_, refl, ap, sym, _∙_}
-use lib.ListN.{length, getD, take, drop, set}
-use native.Mathlib.Omega.{arith}
+-- `turns` meets its contract: the check of the table, or the first loop of rules of offset 0 on its columns, decides.
+-- Assumes nothing.
 use mathlib.Core.Logic.{inl}
 use Rattle.engine.specs.Lay.{judged-outside, judged-within, laid-limits}
 use Rattle.engine.specs.Turn.{turn-knotted, turn-live}
 use borrow.Author.Needs.{needs}
 use Rattle.engine.proofs.turns.Statement.{statement}
 use Rattle.engine.proofs.turns.Tie as tie
-use Rattle.engine.proofs.turns.Reads as reads
-use Rattle.engine.proofs.turns.Lts as lts
-use Rattle.engine.proofs.columns.lay.Reads as lay-reads
-use Rattle.engine.proofs.first.zero_loop.Reads as zero-loop-reads
-use Rattle.table.proofs.check.Reads as check-reads
 
--- src/lib.rt:57:9
 check-requires : tie.Need-check-requires
 check-requires c κs = search needs
 
--- src/lib.rt:59:9
 returns : tie.Need-returns
 returns c = inl (judged-outside _ _ (c .before .before .check .ensures) (c .if1 .taken))
 
--- src/lib.rt:61:9
 lay-requires : tie.Need-lay-requires
 lay-requires c κs = judged-within _ _ (c .before .before .check .ensures) (c .if1 .left)
 
--- src/lib.rt:65:9
 zero-loop-requires : tie.Need-zero-loop-requires
 zero-loop-requires c κs =
     let t = c .before .before .before .before .before .before .before .before .before .before .args .t in
     laid-limits t (judged-within t _ (c .before .before .before .before .before .before .before .before .before .check .ensures) (c .before .before .before .before .before .before .before .if1 .left)) _ _ _ _ _ _ (c .before .before .before .before .before .before .lay .ensures)
 
--- src/lib.rt:67:9
 returns-2 : tie.Need-returns-2
 returns-2 c =
     let t = c .before .before .before .before .before .before .before .before .before .before .before .before .before .args .t in
     turn-knotted t (judged-within t _ (c .before .before .before .before .before .before .before .before .before .before .before .before .check .ensures) (c .before .before .before .before .before .before .before .before .before .before .if1 .left)) _ _ _ _ _ _ (c .before .before .before .before .before .before .before .before .before .lay .ensures) _ _ _ (c .before .before .zero-loop .ensures) (c .if2 .taken)
 
--- src/lib.rt:54:1
 returns-3 : tie.Need-returns-3
 returns-3 c =
     let t = c .before .before .before .before .before .before .before .before .before .before .before .before .before .args .t in

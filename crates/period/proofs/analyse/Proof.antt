@@ -1,67 +1,47 @@
-use Prim.Native.Nat.{ℕ, suc, _+_, _*_, _-_, _≤_, _<_}
-use mathlib.Core.Path.{_≡_, refl, ap, sym, _∙_}
-use lib.ListN.{length, getD, take, drop, set}
+-- `analyse` meets its contract: each way out is what the promise says of the engine's verdict (`analysed-..`).
+-- Assumes nothing.
 use native.Mathlib.Omega.{arith}
 use Rattle.period.specs.Steps.{analysed-outside, analysed-short-schedule, analysed-short-low, analysed-short-high, analysed-refused, analysed-found, lap-within, lap-short, madeAnalysis}
 use borrow.Author.Needs.{needs}
 use Rattle.period.proofs.analyse.Statement.{statement}
 use Rattle.period.proofs.analyse.Tie as tie
-use Rattle.period.proofs.analyse.Reads as reads
-use Rattle.period.proofs.analyse.Lts as lts
-use Rattle.engine.proofs.measure.Reads as measure-reads
-use Rattle.period.proofs.put_rules.Reads as put-rules-reads
-use Rattle.period.proofs.put_values.Reads as put-values-reads
-use Rattle.period.proofs.refused.Reads as refused-reads
 
--- src/lib.rt:108:9
 measure-requires : tie.Need-measure-requires
 measure-requires c κs = search needs
 
--- src/lib.rt:110:9
 refused-requires : tie.Need-refused-requires
 refused-requires c κs = search needs
 
--- src/lib.rt:110:9
 returns : tie.Need-returns
 returns c = analysed-outside _ _ (c .before .before .before .measure .ensures) _ _ _ _ (c .before .if1 .taken) (c .refused .ensures)
 
--- src/lib.rt:113:9
 refused-requires-2 : tie.Need-refused-requires-2
 refused-requires-2 c κs = search needs
 
--- src/lib.rt:113:9
 returns-2 : tie.Need-returns-2
 returns-2 c = analysed-short-schedule _ _ (c .before .before .before .before .measure .ensures) _ _ _ _ (c .before .before .if1 .left) (c .refused2 .ensures) (c .before .if2 .taken)
 
--- src/lib.rt:116:9
 refused-requires-3 : tie.Need-refused-requires-3
 refused-requires-3 c κs = search needs
 
--- src/lib.rt:116:9
 returns-3 : tie.Need-returns-3
 returns-3 c = analysed-short-low _ _ (c .before .before .before .before .before .measure .ensures) _ _ _ _ (c .before .before .before .if1 .left) (c .refused3 .ensures) (c .before .before .if2 .left) (c .before .if3 .taken)
 
--- src/lib.rt:119:9
 refused-requires-4 : tie.Need-refused-requires-4
 refused-requires-4 c κs = search needs
 
--- src/lib.rt:119:9
 returns-4 : tie.Need-returns-4
 returns-4 c = analysed-short-high _ _ (c .before .before .before .before .before .before .measure .ensures) _ _ _ _ (c .before .before .before .before .if1 .left) (c .refused4 .ensures) (c .before .before .before .if2 .left) (c .before .before .if3 .left) (c .before .if4 .taken)
 
--- src/lib.rt:122:9
 refused-requires-5 : tie.Need-refused-requires-5
 refused-requires-5 c κs = search needs
 
--- src/lib.rt:122:9
 returns-5 : tie.Need-returns-5
 returns-5 c = analysed-refused _ _ (c .before .before .before .before .before .before .before .before .measure .ensures) _ _ _ _ (c .before .before .before .before .before .if2 .left) (c .before .before .before .before .if3 .left) (c .before .before .before .if4 .left) (c .before .before .before .before .before .before .if1 .left) (c .before .if5 .taken) (c .refused5 .ensures)
 
--- src/lib.rt:125:5
 put-values-requires : tie.Need-put-values-requires
 put-values-requires c κs = (lap-within _ _ (c .before .before .before .before .before .before .before .before .before .measure .ensures) (c .before .before .before .before .before .before .before .if1 .left) .n-high, c .before .before .before .before .before .before .if2 .left)
 
--- src/lib.rt:128:5
 put-rules-requires : tie.Need-put-rules-requires
 put-rules-requires c κs =
     let is = c .before .before .before .before .before .before .before .before .before .before .before .before .before .before .before .measure .ensures in
@@ -70,7 +50,6 @@ put-rules-requires c κs =
     let room = c .before .before .before .before .before .before .before .before .before .before .before .if3 .left in
     (omega arith, omega arith)
 
--- src/lib.rt:131:5
 put-rules-requires-2 : tie.Need-put-rules-requires-2
 put-rules-requires-2 c κs =
     let is = c .before .before .before .before .before .before .before .before .before .before .before .before .before .before .before .before .before .before .before .before .before .measure .ensures in
@@ -79,19 +58,15 @@ put-rules-requires-2 c κs =
     let room = c .before .before .before .before .before .before .before .before .before .before .before .before .before .before .before .before .if4 .left in
     (omega arith, omega arith)
 
--- src/lib.rt:104:1
 same-length : tie.Need-same-length
 same-length c = search needs
 
--- src/lib.rt:104:1
 same-length-2 : tie.Need-same-length-2
 same-length-2 c = search needs
 
--- src/lib.rt:104:1
 same-length-3 : tie.Need-same-length-3
 same-length-3 c = search needs
 
--- src/lib.rt:104:1
 returns-6 : tie.Need-returns-6
 returns-6 c =
     let is = c .before .before .before .before .before .before .before .before .before .before .before .before .before .before .before .before .before .before .before .before .before .before .before .before .measure .ensures in

@@ -1,15 +1,14 @@
-use Prim.Native.Nat.{ℕ, suc, _+_, _*_, _-_, _≤_, _<_}
-use mathlib.Core.Path.{_≡_, refl, ap, sym, _∙_}
-use lib.ListN.{length, getD, take, drop, set}
+-- `put_values` meets its contract. The loop's invariant: the first i places hold the values, the rest is as it was.
+-- The measure is what is left of n. Assumes nothing.
+use Prim.Native.Nat.{_-_, _≤_}
+use mathlib.Core.Path.{_≡_, refl}
+use lib.ListN.{length, take, drop}
 use native.Mathlib.Omega.{arith}
 use mathlib.Core.List.{_++_}
 use lib.ListN.{length-set}
 use Rattle.period.specs.Steps.{put-next}
-use borrow.Author.Needs.{needs}
 use Rattle.period.proofs.put_values.Statement.{statement}
 use Rattle.period.proofs.put_values.Tie as tie
-use Rattle.period.proofs.put_values.Reads as reads
-use Rattle.period.proofs.put_values.Lts as lts
 
 abbrev Inv-loop : tie.InvT-loop
 Inv-loop n out₀ x i₀ out i = (i ≤ n) × (out ≡ take i x ++ drop i out₀) × (length out ≡ length out₀)
@@ -17,45 +16,35 @@ Inv-loop n out₀ x i₀ out i = (i ≤ n) × (out ≡ take i x ++ drop i out₀
 abbrev μ-loop : tie.MeasureT-loop
 μ-loop n out₀ x i₀ out i = n - i
 
--- src/lib.rt:85:5
 loop-holds : tie.Need-loop-holds Inv-loop μ-loop
 loop-holds c = (omega arith, refl, refl)
 
--- src/lib.rt:86:18
 mul-out : tie.Need-mul-out Inv-loop μ-loop
 mul-out c = omega arith
 
--- src/lib.rt:86:18
 array-read-out : tie.Need-array-read-out Inv-loop μ-loop
 array-read-out c = omega arith
 
--- src/lib.rt:86:9
 mul-out-2 : tie.Need-mul-out-2 Inv-loop μ-loop
 mul-out-2 c = omega arith
 
--- src/lib.rt:86:9
 slice-write-out : tie.Need-slice-write-out Inv-loop μ-loop
 slice-write-out c = omega arith
 
--- src/lib.rt:87:9
 add-i : tie.Need-add-i Inv-loop μ-loop
 add-i c = omega arith
 
--- src/lib.rt:85:5
 loop-less : tie.Need-loop-less Inv-loop μ-loop
 loop-less c = omega arith
 
--- src/lib.rt:85:5
 loop-again : tie.Need-loop-again Inv-loop μ-loop
 loop-again c =
     let l = c .before in
     (omega arith, put-next (l .loop .i) (l .before .args .t1) _ _ (omega arith) (omega arith) (l .loop .inv .1), simp length-set (l .loop .inv .2))
 
--- src/lib.rt:80:1
 same-length : tie.Need-same-length Inv-loop μ-loop
 same-length c = c .before .loop .inv .2
 
--- src/lib.rt:80:1
 returns : tie.Need-returns Inv-loop μ-loop
 returns c =
     let l = c .before in

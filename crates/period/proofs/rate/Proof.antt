@@ -1,45 +1,32 @@
-use Prim.Native.Nat.{ℕ, suc, _+_, _*_, _-_, _≤_, _<_}
-use mathlib.Core.Path.{_≡_, refl, ap, sym, _∙_}
-use lib.ListN.{length, getD, take, drop, set}
+-- `rate` meets its contract: each way out is what the promise says of the engine's verdict (`rated-..`).
+-- Assumes nothing.
 use native.Mathlib.Omega.{arith}
 use Rattle.period.specs.Steps.{rated-outside, rated-unnamed, rated-refused, rated-found}
 use borrow.Author.Needs.{needs}
 use Rattle.period.proofs.rate.Statement.{statement}
 use Rattle.period.proofs.rate.Tie as tie
-use Rattle.period.proofs.rate.Reads as reads
-use Rattle.period.proofs.rate.Lts as lts
-use Rattle.engine.proofs.measure.Reads as measure-reads
-use Rattle.period.proofs.unrated.Reads as unrated-reads
 
--- src/lib.rt:156:9
 measure-requires : tie.Need-measure-requires
 measure-requires c κs = search needs
 
--- src/lib.rt:158:9
 unrated-requires : tie.Need-unrated-requires
 unrated-requires c κs = search needs
 
--- src/lib.rt:158:9
 returns : tie.Need-returns
 returns c = rated-outside _ _ (c .before .before .before .measure .ensures) _ _ (c .before .if1 .taken) (c .unrated .ensures)
 
--- src/lib.rt:161:9
 unrated-requires-2 : tie.Need-unrated-requires-2
 unrated-requires-2 c κs = search needs
 
--- src/lib.rt:161:9
 returns-2 : tie.Need-returns-2
 returns-2 c = rated-unnamed _ _ (c .before .before .before .before .measure .ensures) _ _ (c .before .before .if1 .left) (c .before .if2 .taken) (c .unrated2 .ensures)
 
--- src/lib.rt:164:9
 unrated-requires-3 : tie.Need-unrated-requires-3
 unrated-requires-3 c κs = search needs
 
--- src/lib.rt:164:9
 returns-3 : tie.Need-returns-3
 returns-3 c = rated-refused _ _ (c .before .before .before .before .before .before .measure .ensures) _ _ (c .before .before .before .before .if1 .left) (c .before .before .before .if2 .left) (omega (arith, c .before .if3 .taken)) (c .unrated3 .ensures)
 
--- src/lib.rt:152:1
 returns-4 : tie.Need-returns-4
 returns-4 c = rated-found _ _ (c .before .before .before .before .before .before .before .measure .ensures) _ (c .before .before .before .before .before .if1 .left) (c .before .before .before .before .if2 .left) (omega (arith, c .before .before .if3 .left))
 

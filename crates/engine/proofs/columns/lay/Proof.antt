@@ -1,17 +1,15 @@
-use Prim.Native.Nat.{ℕ, suc, _+_, _*_, _-_, _≤_, _<_}
-use mathlib.Core.Path.{_≡_, refl, ap, sym, _∙_}
-use lib.ListN.{length, getD, take, drop, set}
+-- `columns::lay` meets its contract. The loop's invariant: the columns hold the first i rules (`Laid` at i).
+-- The measure is what is left of m. Assumes nothing.
+use Prim.Native.Nat.{_-_, _≤_}
+use mathlib.Core.Path.{_≡_, refl, sym, _∙_}
 use native.Mathlib.Omega.{arith}
 use borrow.Author.Needs.{needs}
 use mathlib.Core.Logic.{⊎-elim}
-use mathlib.Core.Bool.{true, false}
+use mathlib.Core.Bool.{false}
 use Rattle.table.specs.Form.{ruleOf}
 use Rattle.engine.specs.Lay.{Laid, laid-start, laid-next, ordered, true-false}
 use Rattle.engine.proofs.columns.lay.Statement.{statement}
 use Rattle.engine.proofs.columns.lay.Tie as tie
-use Rattle.engine.proofs.columns.lay.Reads as reads
-use Rattle.engine.proofs.columns.lay.Lts as lts
-use Rattle.engine.proofs.columns.may_be.Reads as may-be-reads
 
 abbrev Inv-loop : tie.InvT-loop
 Inv-loop t m source₀ target₀ offset₀ least₀ greatest₀ blank₀ i₀ source target offset least greatest blank i =
@@ -20,71 +18,54 @@ Inv-loop t m source₀ target₀ offset₀ least₀ greatest₀ blank₀ i₀ so
 abbrev μ-loop : tie.MeasureT-loop
 μ-loop t m source₀ target₀ offset₀ least₀ greatest₀ blank₀ i₀ source target offset least greatest blank i = m - i
 
--- src/columns.rt:53:5
 loop-holds : tie.Need-loop-holds Inv-loop μ-loop
 loop-holds c = (refl, omega arith, c .pre .m-high, laid-start (c .args .t1))
 
--- src/columns.rt:54:20
 mul-rule : tie.Need-mul-rule Inv-loop μ-loop
 mul-rule c = omega arith
 
--- src/columns.rt:54:20
 element-copy-out-rule : tie.Need-element-copy-out-rule Inv-loop μ-loop
 element-copy-out-rule c = omega arith
 
--- src/columns.rt:56:13
 may-be-requires : tie.Need-may-be-requires Inv-loop μ-loop
 may-be-requires c κs = search needs
 
--- src/columns.rt:57:9
 mul-source : tie.Need-mul-source Inv-loop μ-loop
 mul-source c = omega arith
 
--- src/columns.rt:57:9
 array-write-source : tie.Need-array-write-source Inv-loop μ-loop
 array-write-source c = omega arith
 
--- src/columns.rt:58:9
 mul-target : tie.Need-mul-target Inv-loop μ-loop
 mul-target c = omega arith
 
--- src/columns.rt:58:9
 array-write-target : tie.Need-array-write-target Inv-loop μ-loop
 array-write-target c = omega arith
 
--- src/columns.rt:59:9
 mul-offset : tie.Need-mul-offset Inv-loop μ-loop
 mul-offset c = omega arith
 
--- src/columns.rt:59:9
 array-write-offset : tie.Need-array-write-offset Inv-loop μ-loop
 array-write-offset c = omega arith
 
--- src/columns.rt:60:9
 mul-least : tie.Need-mul-least Inv-loop μ-loop
 mul-least c = omega arith
 
--- src/columns.rt:60:9
 array-write-least : tie.Need-array-write-least Inv-loop μ-loop
 array-write-least c = omega arith
 
--- src/columns.rt:61:9
 mul-greatest : tie.Need-mul-greatest Inv-loop μ-loop
 mul-greatest c = omega arith
 
--- src/columns.rt:61:9
 array-write-greatest : tie.Need-array-write-greatest Inv-loop μ-loop
 array-write-greatest c = omega arith
 
--- src/columns.rt:65:9
 add-i : tie.Need-add-i Inv-loop μ-loop
 add-i c = omega arith
 
--- src/columns.rt:53:5
 loop-less : tie.Need-loop-less Inv-loop μ-loop
 loop-less c = omega arith
 
--- src/columns.rt:53:5
 loop-again : tie.Need-loop-again Inv-loop μ-loop
 loop-again c =
     let l = c .before .before .before .before .before in
@@ -94,7 +75,6 @@ loop-again c =
     ⊎-elim (λ w e. absurd (true-false (sym (w .1) ∙ e))) (λ w e. (sym (w .1) ∙ e, omega (arith, k .may-be .ensures, w .0, ordered (ruleOf (s .args .t1) (l .loop .i) .delay)))) (c .if1 .came) in
     (refl, omega arith, s .pre .m-high, laid-next (s .args .t1) (l .loop .i) _ _ _ _ _ (l .loop .blank) (c .if1 .blank) _ _ (l .loop .inv .3) (omega arith) (k .may-be .ensures) given)
 
--- src/columns.rt:41:1
 returns : tie.Need-returns Inv-loop μ-loop
 returns c =
     let l = c .before in

@@ -1,47 +1,31 @@
-use Prim.Native.Nat.{ℕ, suc, _+_, _*_, _-_, _≤_, _<_}
-use mathlib.Core.Path.{_≡_, refl, ap, sym, _∙_}
-use lib.ListN.{length, getD, take, drop, set}
+-- `laps::laps` meets its contract: a loop of offset 0, no loop, or two sides, of which the second is the first where there is no blank.
+-- Assumes nothing.
 use native.Mathlib.Omega.{arith}
 use Rattle.engine.specs.Lap.{ends-knotted, ends-flat, ends-answered, ends-live, sided-same}
-use borrow.Author.Needs.{needs}
 use Rattle.engine.proofs.laps.laps.Statement.{statement}
 use Rattle.engine.proofs.laps.laps.Tie as tie
-use Rattle.engine.proofs.laps.laps.Reads as reads
-use Rattle.engine.proofs.laps.laps.Lts as lts
-use Rattle.engine.proofs.first.zero_loop.Reads as zero-loop-reads
-use Rattle.engine.proofs.laps.answered.Reads as answered-reads
-use Rattle.engine.proofs.laps.measured.Reads as measured-reads
-use Rattle.engine.proofs.laps.refused.Reads as refused-reads
 
--- src/laps.rt:151:9
 zero-loop-requires : tie.Need-zero-loop-requires
 zero-loop-requires c κs = c .pre .0
 
--- src/laps.rt:153:9
 refused-requires : tie.Need-refused-requires
 refused-requires c κs = tt
 
--- src/laps.rt:153:9
 returns : tie.Need-returns
 returns c = ends-knotted (c .before .before .before .zero-loop .ensures) (c .before .if1 .taken) (c .refused .ensures)
 
--- src/laps.rt:155:9
 measured-requires : tie.Need-measured-requires
 measured-requires c κs = let s = c .before .before .before in (s .pre .0, s .pre .1 .short-least, ends-live (c .before .before .zero-loop .ensures) (c .if1 .left))
 
--- src/laps.rt:157:9
 refused-requires-2 : tie.Need-refused-requires-2
 refused-requires-2 c κs = tt
 
--- src/laps.rt:157:9
 returns-2 : tie.Need-returns-2
 returns-2 c = ends-flat (ends-live (c .before .before .before .before .before .before .zero-loop .ensures) (c .before .before .before .before .if1 .left)) (c .before .before .before .measured .ensures) (c .before .if2 .taken) (c .refused2 .ensures)
 
--- src/laps.rt:160:13
 measured-requires-2 : tie.Need-measured-requires-2
 measured-requires-2 c κs = let s = c .before .before .before .before .before .before .before in (s .pre .0, s .pre .1 .short-greatest, ends-live (c .before .before .before .before .before .before .zero-loop .ensures) (c .before .before .before .before .if1 .left))
 
--- src/laps.rt:161:9
 answered-requires : tie.Need-answered-requires
 answered-requires c κs =
     let s = c .before .before .before .before .before .before .before .before in
@@ -50,21 +34,18 @@ answered-requires c κs =
     let high = c .measured2 .ensures in
     (few, omega (arith, low .short), omega (arith, high .short), high .rest, high .size)
 
--- src/laps.rt:161:9
 returns-3 : tie.Need-returns-3
 returns-3 c =
     let s = c .before .before .before .before .before .before .before .before .before in
     let live = ends-live (c .before .before .before .before .before .before .before .before .zero-loop .ensures) (c .before .before .before .before .before .before .if1 .left) in
     ends-answered (s .pre .1 .in-order) live (c .before .before .before .before .before .measured .ensures) (c .before .measured2 .ensures) (c .before .before .before .if2 .left) (c .answered .ensures .0) (c .answered .ensures .1)
 
--- src/laps.rt:163:5
 answered-requires-2 : tie.Need-answered-requires-2
 answered-requires-2 c κs =
     let few = c .before .before .before .before .before .before .before .pre .0 .few-transitions in
     let low = c .before .before .before .measured .ensures in
     (few, omega (arith, low .short), omega (arith, low .short), low .rest, low .size)
 
--- src/laps.rt:138:1
 returns-4 : tie.Need-returns-4
 returns-4 c =
     let s = c .before .before .before .before .before .before .before .before in

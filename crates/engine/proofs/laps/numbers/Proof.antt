@@ -1,6 +1,8 @@
-use Prim.Native.Nat.{ℕ, suc, _+_, _*_, _-_, _≤_, _<_}
-use mathlib.Core.Path.{_≡_, refl, ap, sym, _∙_}
-use lib.ListN.{length, getD, take, drop, set}
+-- `laps::numbers` meets its contract. The loop's invariant: the first i numbers are copied, zeros follow.
+-- The measure is what is left of len. Assumes nothing.
+use Prim.Native.Nat.{_-_, _≤_}
+use mathlib.Core.Path.{_≡_, refl}
+use lib.ListN.{take}
 use native.Mathlib.Omega.{arith}
 use borrow.Author.Needs.{needs}
 use mathlib.Core.List.{_++_}
@@ -8,9 +10,6 @@ use lib.ListN.{replicate}
 use Rattle.engine.specs.Lap.{numbers-next}
 use Rattle.engine.proofs.laps.numbers.Statement.{statement}
 use Rattle.engine.proofs.laps.numbers.Tie as tie
-use Rattle.engine.proofs.laps.numbers.Reads as reads
-use Rattle.engine.proofs.laps.numbers.Lts as lts
-use Rattle.engine.proofs.laps.wide.Reads as wide-reads
 
 abbrev Inv-loop : tie.InvT-loop
 Inv-loop len rules numbers₀ i₀ numbers i = (i ≤ len) × (numbers ≡ take i rules ++ replicate (256 - i) 0)
@@ -18,43 +17,33 @@ Inv-loop len rules numbers₀ i₀ numbers i = (i ≤ len) × (numbers ≡ take 
 abbrev μ-loop : tie.MeasureT-loop
 μ-loop len rules numbers₀ i₀ numbers i = len - i
 
--- src/laps.rt:42:5
 loop-holds : tie.Need-loop-holds Inv-loop μ-loop
 loop-holds c = (omega arith, refl)
 
--- src/laps.rt:43:27
 mul-wide : tie.Need-mul-wide Inv-loop μ-loop
 mul-wide c = omega arith
 
--- src/laps.rt:43:27
 array-read-wide : tie.Need-array-read-wide Inv-loop μ-loop
 array-read-wide c = omega arith
 
--- src/laps.rt:43:22
 wide-requires : tie.Need-wide-requires Inv-loop μ-loop
 wide-requires c κs = search needs
 
--- src/laps.rt:43:9
 mul-numbers : tie.Need-mul-numbers Inv-loop μ-loop
 mul-numbers c = omega arith
 
--- src/laps.rt:43:9
 array-write-numbers : tie.Need-array-write-numbers Inv-loop μ-loop
 array-write-numbers c = omega arith
 
--- src/laps.rt:44:9
 add-i : tie.Need-add-i Inv-loop μ-loop
 add-i c = omega arith
 
--- src/laps.rt:42:5
 loop-less : tie.Need-loop-less Inv-loop μ-loop
 loop-less c = omega arith
 
--- src/laps.rt:42:5
 loop-again : tie.Need-loop-again Inv-loop μ-loop
 loop-again c = (omega arith, numbers-next _ _ _ _ (omega arith) (omega arith) (c .before .before .loop .inv .1) (c .wide .ensures))
 
--- src/laps.rt:36:1
 returns : tie.Need-returns Inv-loop μ-loop
 returns c =
     let l = c .before in
