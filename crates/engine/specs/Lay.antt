@@ -3,7 +3,7 @@
 --   Column f i xs      == the first i places of xs hold f, the others 0
 --   Laid t i ..        == the columns of the first i rules of t: the rules, the least and the greatest delays, and whether any differ
 --   laid-start, laid-next         columns are filled rule by rule
---   laid-shape, laid-least, laid-greatest, laid-given    what the columns say is what the table says
+--   laid-shape, laid-least, laid-greatest    what the columns say is what the table says
 use mathlib.Core.Path.{_≡_, refl, sym, ap, _∙_, fun-ext}
 use mathlib.Core.Bool.{Bool, true, false}
 use mathlib.Core.Logic.{inl, inr, by-cases}
@@ -133,10 +133,6 @@ module _ (t : Table) (s g o l h : List ℕ) (b : Bool) (c : Laid t (t .m) s g o 
 
   pub laid-greatest : (r : ℕ) → r < t .m → getD h r 0 ≡ rangesOf t .greatest r
   laid-greatest r d = c .greatests .filled r d ∙ ap (λ (x : Rule). greatestOf maxDelay (delayOf (x .delay))) (sym (used-rule t r d))
-
-  -- without a blank the greatest delays are the least
-  pub laid-given : b ≡ false → (r : ℕ) → r < t .m → rangesOf t .least r ≡ rangesOf t .greatest r
-  laid-given e r d = sym (laid-least r d) ∙ c .leasts .filled r d ∙ c .no-blank e r d ∙ sym (c .greatests .filled r d) ∙ laid-greatest r d
 
 -- what a check of the table leaves to know
 pub judged-outside : (t : Table) (x : Checked) → Judged t x → 0 < x .refusal → FirstBad t (x .place) × (x .refusal ≡ 3)

@@ -6,7 +6,7 @@
 --   shortest-loop        a shortest route from v to v is a loop
 --   KindLoop S A u rs    == rs, read from u, is a loop of rules of the kind A
 --   FirstLoop S A u rs   == the first of them
---   first-unique, none-or-first-loop   there is only one; there is none, or a first
+--   none-or-first-loop   there is none, or a first
 --   route-loop           the first shortest route from the lowest transition that has one is the first loop
 use mathlib.Core.Path.{_≡_, refl, sym, ap, _∙_, subst}
 use mathlib.Core.Logic.{_⊎_, inl, inr, ⊎-elim, by-cases}
@@ -140,22 +140,6 @@ module _ (S : Shape) (A : ℕ → Type 0) where
     pub lowest : (w : ℕ) (qs : List ℕ) → KindLoop w qs → u ≤ w
     pub fewest : (qs : List ℕ) → KindLoop u qs → length rs ≤ length qs
     pub first : (qs : List ℕ) → KindLoop u qs → length qs ≡ length rs → NotAfter rs qs
-
-  -- ONLY ONE
-  pub first-unique : (u w : ℕ) (rs qs : List ℕ) → FirstLoop u rs → FirstLoop w qs → (u ≡ w) × (rs ≡ qs)
-  first-unique u w rs qs a b = (same, order-unique rs qs (a .first qs at-u (sym lengths)) (b .first rs at-w lengths))
-    where
-      same : u ≡ w
-      same = le-antisymm (a .lowest w qs (b .is-one)) (b .lowest u rs (a .is-one))
-
-      at-u : KindLoop u qs
-      at-u = rw same (b .is-one)
-
-      at-w : KindLoop w rs
-      at-w = rw (← same) (a .is-one)
-
-      lengths : length rs ≡ length qs
-      lengths = le-antisymm (a .fewest qs at-u) (b .fewest rs at-w)
 
 module _ (S : Shape) (A : ℕ → Type 0) (dec : (r : ℕ) → Dec (A r)) (n : ℕ) (fits : Fits S n) where
   -- k + 1 is the length of a shortest route from v to v

@@ -42,9 +42,6 @@ module _ (S : Shape) where
     pub turned-delays : (D : ℕ → ℕ) → delays D ((s ∷ ss) ++ rs) ≡ delays D (rs ++ (s ∷ ss))
     turned-delays D = omega (arith, delays-append D (s ∷ ss) rs, delays-append D rs (s ∷ ss))
 
-    pub turned-length : length ((s ∷ ss) ++ rs) ≡ length (rs ++ (s ∷ ss))
-    turned-length = omega (arith, length-append (s ∷ ss) rs, length-append rs (s ∷ ss))
-
   -- a closed walk of rules of one kind has a loop of that kind in it
   pub record LoopOf (A : ℕ → Type 0) : Type 0 where
     pub at : ℕ

@@ -6,7 +6,6 @@
 --   path-short              a path has fewer rules than there are transitions
 --   LoopAbove S D P Q       == a loop above P/Q
 --   shorten                 a walk has a loop above P/Q in it, or there is a path that is as heavy
---   loop-above              a closed walk above P/Q has a loop above P/Q in it
 use mathlib.Core.Path.{_≡_, refl, sym, ap, subst}
 use mathlib.Core.Logic.{_≢_, _⊎_, inl, inr, ⊎-elim, ⊎-map, by-cases}
 use mathlib.Core.List.{List, [], _∷_, _++_}
@@ -151,11 +150,6 @@ module _ (S : Shape) where
   pub path-short : (n : ℕ) → Fits S n → (u w : ℕ) (rs : List ℕ) → u < n → Walk S u w rs → Distinct (visits S w rs) → length rs < n
   path-short n f u w rs b h d = omega (arith, length-visits w rs, pigeonhole n (visits S w rs) d (visits-below n f u w rs b h))
 
-  -- so a walk of n rules or more has a loop in it
-  pub long-splits : (n : ℕ) → Fits S n → (u w : ℕ) (rs : List ℕ) → u < n → Walk S u w rs → n ≤ length rs → Splits u w rs
-  long-splits n f u w rs b h l =
-      ⊎-elim (λ d. absurd (omega (arith, path-short n f u w rs b h d))) (λ s. s) (path-or-splits u w rs h)
-
 -- a loop above P/Q
 pub record LoopAbove (S : Shape) (D : ℕ → ℕ) (P Q : ℕ) : Type 0 where
   pub at : ℕ
@@ -196,11 +190,3 @@ module _ (S : Shape) (D : ℕ → ℕ) (P Q : ℕ) where
       (λ d. inr (record { path = rs; walks = h; distinct = d; heavy = omega arith }))
       (λ s. cut u w rs s (shorten k u w (s .front ++ s .back) (omega (arith, splits-shorter S u w rs s)) (s .rest)))
       (path-or-splits S u w rs h)
-
-  -- A closed walk above P/Q has a loop above P/Q in it.
-  pub loop-above : (u : ℕ) (rs : List ℕ) → Walk S u u rs → Above S D P Q rs → LoopAbove S D P Q
-  loop-above u rs h o = ⊎-elim (λ l. l) (λ t. absurd (no-path (t .path) (t .walks) (t .distinct) (t .heavy))) (shorten (suc (length rs)) u u rs (omega arith) h)
-    where
-      no-path : (ps : List ℕ) → Walk S u u ps → Distinct (visits S u ps) → Q * delays D rs + P * offsets S ps ≤ Q * delays D ps + P * offsets S rs → ⊥
-      no-path [] w d x = omega arith
-      no-path (r ∷ ps) w d x = notIn-last (S.source r) u (sources S ps) (d .0) (sym (w .1))
