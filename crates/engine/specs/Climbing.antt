@@ -5,15 +5,18 @@
 --   Risen i s t g h x₀ par₀ x par f == it raised t (f), or asked for no more than t had
 --   Query S D n P Q                 == rules within the limits, and a ratio that a closed walk can have
 --   Ready S D P Q x par             == a query, with the values and parents after some passes: what a pass asks for
---   Ended S D P Q x₀ par₀ x par f   == what a pass promises
---   Going S D P Q x₀ par₀ x par f i == a pass that began at x₀ and par₀, before its rule i: it raised something (f) or nothing
---   Settling S D P Q n x par k      == the search at P/Q, after k passes
+--   Ended S D P Q x₀ par₀ x par f   == what a pass promises: it raised something (f) or nothing
+--   Carried S D P Q x₀ par₀ x par   == what a pass in another order promises, which need not come to every rule
+--   Going S D P Q x₀ par₀ x par Done j  == a pass that began at x₀ and par₀: j rules have asked, and those that are Done
+--   Told S x₀ x f                   == from x₀ to x something rose (f) or nothing
+--   Settling S D P Q n x par k      == the search at P/Q, after k passes of each kind
 --   Rising S D P Q                  == the climb has come to P/Q
+--   Quotient a e p q                == p/q is a/e in lowest terms
 --   left P Q                        == the steps of 1/3840² that are left above P/Q
---   going-start, going-asks, going-raise, going-keep, going-end                                            the loop of a pass
---   settling-start, settling-ready, settling-sound, settling-quiet, settling-found, settling-on            the loop of passes
+--   going-start, going-asks, going-on, going-skip, going-end, going-carried, told-start, told-raise, told-keep   the loop of a pass
+--   settling-start, settling-ready, settling-carried, settling-sound, settling-quiet, settling-found, settling-on            the loop of passes
 --   least-low                       the least values that keep every rule are low
---   rising-start, rising-query, rising-end, rising-divides, rising-next, rising-less                       the loop of ratios
+--   rising-start, rising-query, rising-end, walk-turns, rising-walk, rising-less                           the loop of ratios
 use mathlib.Core.Path.{_≡_, refl, sym, ap, subst}
 use mathlib.Core.Bool.{Bool, true, false}
 use mathlib.Core.Logic.{_⊎_, inl, inr, ⊎-elim, by-cases}
@@ -21,7 +24,7 @@ use mathlib.Core.List.{List, [], _∷_}
 use Prim.Native.Nat.{ℕ, suc, _+_, _*_, _-_, _/_, _≤_, _<_}
 use native.Mathlib.Omega.{arith}
 use native.Mathlib.Nat.{le-trans, le-of-eq, mul-le-mul, mul-le-mul-left, mul-le-mul-right, lt-of-mul-lt-mul-right, div-le-self}
-use native.Mathlib.Decide.{decLt}
+use native.Mathlib.Decide.{ℕ-discrete, decLt}
 use native.Mathlib.Numerals.{add-one}
 use lib.ListN.{length, getD, set, length-set, replicate, length-replicate, List·getD-eq-default}
 use lib.Seq.{getD-set-same}
@@ -37,11 +40,11 @@ use Rattle.theory.specs.Schedule.{closed-not-above}
 use Rattle.theory.specs.Relax.{Below, values, zeros-at, values-attained}
 use Rattle.theory.specs.Ratio.{IsGcd, Reduces, gcd-quotients, divides-pos}
 use Rattle.theory.specs.Parents.{Parents, Sound, raised-not-grounded}
-use Rattle.theory.specs.Raise.{Raised, raised-start, Passing, passing-start, passing-raise, passing-leave, passing-end, settled}
+use Rattle.theory.specs.Raise.{Raised, raised-start, raised-most, Passing, passing-start, passing-raise, passing-leave, passing-skip, passing-carried, passing-end, settled}
 use Rattle.theory.specs.Period.{climbs, schedule-above}
 use Rattle.theory.specs.Climb.{ClosedWalk, closed-turns}
 use Rattle.engine.specs.Columns.{shape, delayAt, Limits, Short}
-use Rattle.engine.specs.Search.{Scanned, Passed, Settled, Reached}
+use Rattle.engine.specs.Search.{ParentLoop, Scanned, Passed, LowWalk, Settled, Reached}
 
 -- 2,048 rules, each by at most 3,840 times 1,000,000
 abbrev pub rise : ℕ
@@ -71,23 +74,32 @@ pub record Query (S : Shape) (D : ℕ → ℕ) (n P Q : ℕ) : Type 0 where
   pub P-low : P ≤ 256000000
   pub Q-low : Q ≤ 3840
 
+-- no value has risen further than in 511 passes
 pub record Ready (S : Shape) (D : ℕ → ℕ) (P Q : ℕ) (x par : List ℕ) : Type 0 where
   pub query : Query S D 256 P Q
   pub x-room : length x ≡ 256
   pub par-room : length par ≡ 256
+  pub most : ℕ
   pub passes : ℕ
-  pub few-passes : passes ≤ 256
-  pub raised : Raised S D P Q rise passes x par
+  pub low : most ≤ 511 * rise
+  pub raised : Raised S D P Q most passes x par
 
 pub record Ended (S : Shape) (D : ℕ → ℕ) (P Q : ℕ) (x₀ par₀ x par : List ℕ) (f : Bool) : Type 0 where
   pub x-room : length x ≡ 256
   pub par-room : length par ≡ 256
-  pub passed : (k : ℕ) → Raised S D P Q rise k x₀ par₀ → Passed S D P Q rise k x₀ x par f
+  pub passed : (c k : ℕ) → Raised S D P Q c k x₀ par₀ → Passed S D P Q (c + rise) k x₀ x par f
 
-pub record Going (S : Shape) (D : ℕ → ℕ) (P Q : ℕ) (x₀ par₀ x par : List ℕ) (f : Bool) (i : ℕ) : Type 0 where
+pub record Carried (S : Shape) (D : ℕ → ℕ) (P Q : ℕ) (x₀ par₀ x par : List ℕ) : Type 0 where
   pub x-room : length x ≡ 256
   pub par-room : length par ≡ 256
-  pub passing : (k : ℕ) → Raised S D P Q rise k x₀ par₀ → Passing S D P Q 1000000 (k * rise) x₀ x par i
+  pub raised : (c k : ℕ) → Raised S D P Q c k x₀ par₀ → Raised S D P Q (c + rise) k x par
+
+pub record Going (S : Shape) (D : ℕ → ℕ) (P Q : ℕ) (x₀ par₀ x par : List ℕ) (Done : ℕ → Type 0) (j : ℕ) : Type 0 where
+  pub x-room : length x ≡ 256
+  pub par-room : length par ≡ 256
+  pub passing : (c k : ℕ) → Raised S D P Q c k x₀ par₀ → Passing S D P Q 1000000 c x₀ x par Done j
+
+pub record Told (S : Shape) (x₀ x : List ℕ) (f : Bool) : Type 0 where
   pub quiet : f ≡ false → x ≡ x₀
   pub busy : f ≡ true → (r : ℕ) × (r < S.rules) × (getD x₀ (S.target r) 0 < getD x (S.target r) 0)
 
@@ -95,7 +107,7 @@ pub record Settling (S : Shape) (D : ℕ → ℕ) (P Q n : ℕ) (x par : List �
   pub few-passes : k < n
   pub x-room : length x ≡ 256
   pub par-room : length par ≡ 256
-  pub raised : Raised S D P Q rise k x par
+  pub raised : Raised S D P Q (k * (2 * rise)) k x par
 
 pub record Rising (S : Shape) (D : ℕ → ℕ) (P Q : ℕ) : Type 0 where
   pub P-low : P ≤ 256000000
@@ -104,36 +116,50 @@ pub record Rising (S : Shape) (D : ℕ → ℕ) (P Q : ℕ) : Type 0 where
   pub lowest : Lowest P Q
   pub attained : ((P ≡ 0) × (Q ≡ 1)) ⊎ ((a : ℕ) × (e : ℕ) × ClosedWalk S D a e × (Q * a ≡ P * e))
 
+abbrev pub Quotient : ℕ → ℕ → ℕ → ℕ → Type 0
+Quotient a e p q = (d : ℕ) × Reduces a e p q d
+
 -- 256,000,000 times 3840², and 1
 abbrev pub left : ℕ → ℕ → ℕ
 left P Q = 3774873600000001 - P * (3840 * 3840) / Q
 
--- a flag is not both
+-- a flag is one or the other, and not both
+pub either : (f : Bool) → (f ≡ true) ⊎ (f ≡ false)
+either true = inl refl
+either false = inr refl
+
 pub not-both : (f : Bool) → f ≡ true → f ≡ false → ⊥
 not-both f p q = let z : _≡_ {A = ℕ} 0 1 = cc in omega arith
 
 -- a pass -----------------------------------------------------------------------------------------------------------------------------------
+-- the rules before number i, and none: those that are done before rule i of a pass in the file's order, and in a pass in another order
+abbrev pub Before : ℕ → ℕ → Type 0
+Before i r = r < i
+
+abbrev pub None : ℕ → Type 0
+None r = ⊥
+
+pub before-next : (i r : ℕ) → Before (i + 1) r → (r ≡ i) ⊎ Before i r
+before-next i r b = by-cases (ℕ-discrete r i) inl (λ d. inr (omega arith))
+
+pub told-start : {S : Shape} {x : List ℕ} → Told S x x false
+told-start = record { quiet = λ e. refl; busy = λ e. absurd (not-both false e refl) }
+
 module _ {S : Shape} {D : ℕ → ℕ} {P Q : ℕ} {x₀ par₀ : List ℕ} (ready : Ready S D P Q x₀ par₀) where
-  pub going-start : Going S D P Q x₀ par₀ x₀ par₀ false 0
-  going-start =
-      record {
-        x-room = ready .x-room;
-        par-room = ready .par-room;
-        passing = λ k h. passing-start S D P Q 1000000 rise k x₀ par₀ h;
-        quiet = λ e. refl;
-        busy = λ e. absurd (not-both false e refl);
-      }
+  pub going-start : (Done : ℕ → Type 0) → ((r : ℕ) → ¬ (Done r)) → Going S D P Q x₀ par₀ x₀ par₀ Done 0
+  going-start Done none =
+      record { x-room = ready .x-room; par-room = ready .par-room; passing = λ c k h. passing-start S D P Q 1000000 c k x₀ par₀ Done none h }
 
-  -- k rules add at most k times 3,840 times 1,000,000
-  added : (k : ℕ) → k ≤ S.rules → k * (Q * 1000000) ≤ rise
-  added k b = omega (arith, mul-le-mul {n₁ = k} {m₁ = Q * 1000000} {n₂ = 2048} {m₂ = 3840000000} (omega (arith, ready .query .few-rules)) (omega (arith, ready .query .Q-low)))
+  -- j rules add at most j times 3,840 times 1,000,000
+  added : (j : ℕ) → j ≤ 2048 → j * (Q * 1000000) ≤ rise
+  added j b = omega (arith, mul-le-mul {n₁ = j} {m₁ = Q * 1000000} {n₂ = 2048} {m₂ = 3840000000} b (omega (arith, ready .query .Q-low)))
 
-  module _ {x par : List ℕ} {f : Bool} {i : ℕ} (is-rule : i < S.rules) (h : Going S D P Q x₀ par₀ x par f i) where
-    so-far : Passing S D P Q 1000000 (ready .passes * rise) x₀ x par i
-    so-far = h .passing (ready .passes) (ready .raised)
+  module _ {x par : List ℕ} {Done : ℕ → Type 0} {i j : ℕ} (is-rule : i < S.rules) (few : j ≤ 2048) (h : Going S D P Q x₀ par₀ x par Done j) where
+    so-far : Passing S D P Q 1000000 (ready .most) x₀ x par Done j
+    so-far = h .passing (ready .most) (ready .passes) (ready .raised)
 
     low : (v : ℕ) → getD x v 0 ≤ 4503599627370496
-    low v = omega (arith, so-far .most v, ready .few-passes, added i (omega arith))
+    low v = omega (arith, so-far .most v, ready .low, added j few)
 
     pub going-asks : Asks i (S.source i) (S.target i) (Q * D i) (P * S.offset i) x
     going-asks =
@@ -147,53 +173,88 @@ module _ {S : Shape} {D : ℕ → ℕ} {P Q : ℕ} {x₀ par₀ : List ℕ} (rea
           target-value = low (S.target i);
         }
 
-    -- a turn of the loop, by what the rule did (g)
-    module _ {x′ par′ : List ℕ} {f′ g : Bool} (risen : Risen i (S.source i) (S.target i) (Q * D i) (P * S.offset i) x par x′ par′ g) where
-      pub going-raise : g ≡ true → f′ ≡ true → Going S D P Q x₀ par₀ x′ par′ f′ (i + 1)
-      going-raise e t =
+    -- rule i asks, and did (g) or did not raise its target
+    module _ {x′ par′ : List ℕ} {g : Bool} (risen : Risen i (S.source i) (S.target i) (Q * D i) (P * S.offset i) x par x′ par′ g) where
+      in-x : S.target i < length x
+      in-x = omega (arith, h .x-room, ready .query .fits i is-rule)
+
+      in-par : S.target i < length par
+      in-par = omega (arith, h .par-room, ready .query .fits i is-rule)
+
+      going-raise : {Done′ : ℕ → Type 0} → ((r : ℕ) → Done′ r → (r ≡ i) ⊎ Done r) → g ≡ true → Going S D P Q x₀ par₀ x′ par′ Done′ (j + 1)
+      going-raise {Done′} which e =
           let (l, ex, ep) = risen .raised e in
-          rw (t, ex, ep, add-one i)
+          rw (ex, ep, add-one i, add-one j)
           (record {
             x-room = simp length-set (h .x-room);
             par-room = simp length-set (h .par-room);
-            passing = λ k r. passing-raise S D P Q 1000000 (k * rise) x₀ x par i (h .passing k r) is-rule in-x in-par (ready .query .short i is-rule) l;
-            quiet = λ e. absurd (not-both true refl e);
-            busy = λ e. (i, is-rule, omega (arith, getD-set-same x (S.target i) (getD x (S.source i) 0 + Q * D i - P * S.offset i) 0 in-x, so-far .up (S.target i)));
+            passing = λ c k r. passing-raise S D P Q 1000000 c x₀ x par Done Done′ i j (h .passing c k r) is-rule which in-x in-par (ready .query .short i is-rule) l;
           })
-        where
-          in-x : S.target i < length x
-          in-x = omega (arith, h .x-room, ready .query .fits i is-rule)
 
-          in-par : S.target i < length par
-          in-par = omega (arith, h .par-room, ready .query .fits i is-rule)
-
-      pub going-keep : g ≡ false → f′ ≡ f → Going S D P Q x₀ par₀ x′ par′ f′ (i + 1)
-      going-keep e t =
+      going-keep : {Done′ : ℕ → Type 0} → ((r : ℕ) → Done′ r → (r ≡ i) ⊎ Done r) → g ≡ false → Going S D P Q x₀ par₀ x′ par′ Done′ (j + 1)
+      going-keep {Done′} which e =
           let (l, ex, ep) = risen .kept e in
-          rw (t, ex, ep, add-one i)
+          rw (ex, ep, add-one j)
           (record {
             x-room = h .x-room;
             par-room = h .par-room;
-            passing = λ k r. passing-leave S D P Q 1000000 (k * rise) x₀ x par i (h .passing k r) is-rule l;
-            quiet = h .quiet;
-            busy = h .busy;
+            passing = λ c k r. passing-leave S D P Q 1000000 c x₀ x par Done Done′ i j (h .passing c k r) is-rule which l;
           })
 
-  pub going-end : {x par : List ℕ} {f : Bool} {i : ℕ} → i ≡ S.rules → Going S D P Q x₀ par₀ x par f i → Ended S D P Q x₀ par₀ x par f
-  going-end {x} {par} {f} {i} all h =
+      pub going-on : {Done′ : ℕ → Type 0} → ((r : ℕ) → Done′ r → (r ≡ i) ⊎ Done r) → Going S D P Q x₀ par₀ x′ par′ Done′ (j + 1)
+      going-on which = ⊎-elim (going-raise which) (going-keep which) (either g)
+
+      pub told-raise : {f′ : Bool} → g ≡ true → f′ ≡ true → Told S x₀ x′ f′
+      told-raise e t =
+          let (l, ex, ep) = risen .raised e in
+          rw (t, ex)
+          (record {
+            quiet = λ e. absurd (not-both true refl e);
+            busy = λ e. (i, is-rule, omega (arith, getD-set-same x (S.target i) (getD x (S.source i) 0 + Q * D i - P * S.offset i) 0 in-x, so-far .up (S.target i)));
+          })
+
+      pub told-keep : {f f′ : Bool} → Told S x₀ x f → g ≡ false → f′ ≡ f → Told S x₀ x′ f′
+      told-keep told e t = let (l, ex, ep) = risen .kept e in rw (t, ex) told
+
+  pub going-skip : {x par : List ℕ} {j : ℕ} → Going S D P Q x₀ par₀ x par None j → Going S D P Q x₀ par₀ x par None (j + 1)
+  going-skip {x} {par} {j} h =
+      rw (add-one j) (record { x-room = h .x-room; par-room = h .par-room; passing = λ c k r. passing-skip S D P Q 1000000 c j x₀ x par None (h .passing c k r) })
+
+  pub going-end : {x par : List ℕ} {f : Bool} {i : ℕ} → i ≡ S.rules → Going S D P Q x₀ par₀ x par (Before i) i → Told S x₀ x f → Ended S D P Q x₀ par₀ x par f
+  going-end {x} {par} {f} {i} all h told =
       record {
         x-room = h .x-room;
         par-room = h .par-room;
-        passed = λ k r.
+        passed = λ c k r.
             record {
-              raised = passing-end S D P Q 1000000 rise k x₀ x par₀ par r (added S.rules (omega arith)) (passing k r);
-              quiet = λ e. settled S D P Q 1000000 (k * rise) x par (subst (λ y. Passing S D P Q 1000000 (k * rise) y x par S.rules) (sym (h .quiet e)) (passing k r));
-              busy = h .busy;
+              raised = raised-most S D P Q {k = suc k} {X = x} {par = par} (high c) (passing-end S D P Q 1000000 c k i x₀ x par₀ par (Before i) r every (h .passing c k r));
+              quiet = λ e. settled S D P Q 1000000 c i x par (Before i) every (subst (λ y. Passing S D P Q 1000000 c y x par (Before i) i) (sym (told .quiet e)) (h .passing c k r));
+              busy = told .busy;
             };
       }
     where
-      passing : (k : ℕ) → Raised S D P Q rise k x₀ par₀ → Passing S D P Q 1000000 (k * rise) x₀ x par S.rules
-      passing k r = subst (λ j. Passing S D P Q 1000000 (k * rise) x₀ x par j) all (h .passing k r)
+      every : (r : ℕ) → r < S.rules → Before i r
+      every r b = omega arith
+
+      high : (c : ℕ) → c + i * (Q * 1000000) ≤ c + rise
+      high c = omega (arith, added i (omega (arith, ready .query .few-rules)))
+
+  pub going-carried : {x par : List ℕ} {j : ℕ} → j ≤ 2048 → Going S D P Q x₀ par₀ x par None j → Carried S D P Q x₀ par₀ x par
+  going-carried {x} {par} {j} few h =
+      record {
+        x-room = h .x-room;
+        par-room = h .par-room;
+        raised = λ c k r. raised-most S D P Q {k = k} {X = x} {par = par} (omega (arith, added j few)) (passing-carried S D P Q 1000000 c k j x₀ x par₀ par None r (h .passing c k r));
+      }
+
+-- a walk of parents is a closed walk
+pub walk-of : {S : Shape} {D : ℕ → ℕ} {par : List ℕ} {n a e : ℕ} → ParentLoop S D par n a e → LowWalk S D n a e
+walk-of w =
+    record {
+      is-walk = record { at = w .at; walk = w .walk; some-rule = w .some-rule; closed = w .closed; delays-are = w .delays-are; offsets-are = w .offsets-are };
+      delays-low = w .delays-low;
+      offsets-low = w .offsets-low;
+    }
 
 -- the search at one ratio ------------------------------------------------------------------------------------------------------------------
 module _ {S : Shape} {D : ℕ → ℕ} {n P Q : ℕ} (query : Query S D n P Q) where
@@ -203,79 +264,81 @@ module _ {S : Shape} {D : ℕ → ℕ} {n P Q : ℕ} (query : Query S D n P Q) w
         few-passes = query .some-transition;
         x-room = length-replicate {A = ℕ} 256 0;
         par-room = length-replicate {A = ℕ} 256 0;
-        raised = raised-start S D P Q rise 256;
+        raised = raised-start S D P Q 256;
+      }
+
+  wide : Query S D 256 P Q
+  wide =
+      record {
+        few-rules = query .few-rules;
+        some-transition = omega arith;
+        few-transitions = omega arith;
+        fits = λ r b. (omega (arith, query .fits r b, query .few-transitions), omega (arith, query .fits r b, query .few-transitions));
+        small-offsets = query .small-offsets;
+        short = query .short;
+        P-low = query .P-low;
+        Q-low = query .Q-low;
       }
 
   module _ {x₀ par₀ : List ℕ} {k : ℕ} (h : Settling S D P Q n x₀ par₀ k) where
     pub settling-ready : Ready S D P Q x₀ par₀
     settling-ready =
-        record {
-          query = record {
-            few-rules = query .few-rules;
-            some-transition = omega arith;
-            few-transitions = omega arith;
-            fits = λ r b. (omega (arith, query .fits r b, query .few-transitions), omega (arith, query .fits r b, query .few-transitions));
-            small-offsets = query .small-offsets;
-            short = query .short;
-            P-low = query .P-low;
-            Q-low = query .Q-low;
-          };
-          x-room = h .x-room;
-          par-room = h .par-room;
-          passes = k;
-          few-passes = omega (arith, h .few-passes, query .few-transitions);
-          raised = h .raised;
-        }
+        record { query = wide; x-room = h .x-room; par-room = h .par-room; most = k * (2 * rise); passes = k; low = omega (arith, h .few-passes, query .few-transitions); raised = h .raised }
 
-    module _ {x par : List ℕ} {f : Bool} (ended : Ended S D P Q x₀ par₀ x par f) where
-      passed : Passed S D P Q rise k x₀ x par f
-      passed = ended .passed k (h .raised)
+    -- a pass in another order, and then one in the file's order
+    module _ {x₁ par₁ : List ℕ} (carried : Carried S D P Q x₀ par₀ x₁ par₁) where
+      between : Raised S D P Q (k * (2 * rise) + rise) k x₁ par₁
+      between = carried .raised _ k (h .raised)
 
-      pub settling-sound : Sound S D P Q x par
-      settling-sound = passed .raised .sound
+      pub settling-carried : Ready S D P Q x₁ par₁
+      settling-carried =
+          record { query = wide; x-room = carried .x-room; par-room = carried .par-room; most = k * (2 * rise) + rise; passes = k; low = omega (arith, h .few-passes, query .few-transitions); raised = between }
 
-      -- nothing rose: the least values that keep every rule
-      pub settling-quiet : f ≡ false → Settled S D P Q n x false 0 0
-      settling-quiet e =
-          record {
-            keeps = λ z. passed .quiet e;
-            least = λ z. passed .raised .least;
-            walk = λ z. absurd (not-both false z refl);
-            above = λ z. absurd (not-both false z refl);
-            delays-low = λ z. absurd (not-both false z refl);
-            offsets-low = λ z. absurd (not-both false z refl);
-          }
+      module _ {x par : List ℕ} {f : Bool} (ended : Ended S D P Q x₁ par₁ x par f) where
+        passed : Passed S D P Q (k * (2 * rise) + rise + rise) k x₁ x par f
+        passed = ended .passed _ k between
 
-      module _ {g : Bool} {a e : ℕ} (scanned : Scanned S D n par g a e) where
-        -- the parents came round: that walk is above P/Q
-        pub settling-found : g ≡ true → Settled S D P Q n x g a e
-        settling-found t =
-            let w = scanned .some t in
+        pub settling-sound : Sound S D P Q x par
+        settling-sound = passed .raised .sound
+
+        -- nothing rose: the least values that keep every rule
+        pub settling-quiet : f ≡ false → Settled S D P Q n x false 0 0
+        settling-quiet e =
             record {
-              keeps = λ z. absurd (not-both g t z);
-              least = λ z. absurd (not-both g t z);
-              walk = λ z. record { at = w .at; walk = w .walk; some-rule = w .some-rule; closed = w .closed; delays-are = w .delays-are; offsets-are = w .offsets-are };
-              above = λ z. round (w .at) (w .walk) (w .some-rule) (w .closed) (w .parents) (w .delays-are) (w .offsets-are);
-              delays-low = λ z. w .delays-low;
-              offsets-low = λ z. w .offsets-low;
+              keeps = λ z. passed .quiet e;
+              least = λ z. passed .raised .least;
+              walk = λ z. absurd (not-both false z refl);
+              above = λ z. absurd (not-both false z refl);
             }
-          where
-            round : (u : ℕ) (rs : List ℕ) → 0 < length rs → Walk S u u rs → Parents S par rs → delays D rs ≡ a → offsets S rs ≡ e → P * e < Q * a
-            round u [] b c d ea ee = absurd (omega arith)
-            round u (r ∷ rs) b c d ea ee = omega (arith, settling-sound .cycles u r rs c d, ap (λ t. Q * t) ea, ap (λ t. P * t) ee)
 
-        -- they did not, though something rose: so this was not pass number n
-        pub settling-on : f ≡ true → g ≡ false → Settling S D P Q n x par (k + 1)
-        settling-on t none =
-            rw (add-one k) (record { few-passes = more (passed .busy t); x-room = ended .x-room; par-room = ended .par-room; raised = passed .raised })
-          where
-            not-last : ((r : ℕ) × (r < S.rules) × (getD x₀ (S.target r) 0 < getD x (S.target r) 0)) → n ≤ suc k → ⊥
-            not-last (r, is-rule, up) b =
-                raised-not-grounded S n par D P Q x₀ x k (S.target r) (query .fits) settling-sound b (h .raised .reach) up
-                (scanned .none none (S.target r) (query .fits r is-rule .1))
+        module _ {g : Bool} {a e : ℕ} (scanned : Scanned S D n par g a e) where
+          -- the parents came round: that walk is above P/Q
+          pub settling-found : g ≡ true → Settled S D P Q n x g a e
+          settling-found t =
+              let w = scanned .some t in
+              record {
+                keeps = λ z. absurd (not-both g t z);
+                least = λ z. absurd (not-both g t z);
+                walk = λ z. walk-of w;
+                above = λ z. round (w .at) (w .walk) (w .some-rule) (w .closed) (w .parents) (w .delays-are) (w .offsets-are);
+              }
+            where
+              round : (u : ℕ) (rs : List ℕ) → 0 < length rs → Walk S u u rs → Parents S par rs → delays D rs ≡ a → offsets S rs ≡ e → P * e < Q * a
+              round u [] b c d ea ee = absurd (omega arith)
+              round u (r ∷ rs) b c d ea ee = omega (arith, settling-sound .cycles u r rs c d, ap (λ t. Q * t) ea, ap (λ t. P * t) ee)
 
-            more : ((r : ℕ) × (r < S.rules) × (getD x₀ (S.target r) 0 < getD x (S.target r) 0)) → suc k < n
-            more b = let last = not-last b in by-cases (decLt (suc k) n) (λ l. l) (λ l. absurd (last (omega arith)))
+          -- they did not, though something rose: so this was not pass number n
+          pub settling-on : f ≡ true → g ≡ false → Settling S D P Q n x par (k + 1)
+          settling-on t none =
+              rw (add-one k) (record { few-passes = more (passed .busy t); x-room = ended .x-room; par-room = ended .par-room; raised = raised-most S D P Q {k = suc k} {X = x} {par = par} (omega arith) (passed .raised) })
+            where
+              not-last : ((r : ℕ) × (r < S.rules) × (getD x₁ (S.target r) 0 < getD x (S.target r) 0)) → n ≤ suc k → ⊥
+              not-last (r, is-rule, up) b =
+                  raised-not-grounded S n par D P Q x₁ x k (S.target r) (query .fits) settling-sound b (between .reach) up
+                  (scanned .none none (S.target r) (query .fits r is-rule .1))
+
+              more : ((r : ℕ) × (r < S.rules) × (getD x₁ (S.target r) 0 < getD x (S.target r) 0)) → suc k < n
+              more b = let last = not-last b in by-cases (decLt (suc k) n) (λ l. l) (λ l. absurd (last (omega arith)))
 
 -- LEAST VALUES ARE LOW. A schedule that passes come to has no value above the weight of a path, which has less than n rules; the least is below it.
 module _ {S : Shape} {D : ℕ → ℕ} {n P Q : ℕ} (query : Query S D n P Q) (x : List ℕ) (keeps : Keeps S D P Q x) (least : (Y : List ℕ) → Keeps S D P Q Y → Below x Y) where
@@ -301,6 +364,10 @@ module _ {S : Shape} {D : ℕ → ℕ} {n P Q : ℕ} (query : Query S D n P Q) (
           (λ o. absurd (omega (arith, o .above, closed-not-above S D P Q x keeps (o .at) (o .loop) (o .is-loop .closed))))
           (λ h. path-low (t .start) v (getD top v 0) (t .walk) (t .start-below) h (omega (arith, t .weight, zeros-at n (t .start))))
           (shorten S D P Q (suc (length (t .walk))) (t .start) v (t .walk) (omega arith) (t .walks))
+
+-- what a program divides by
+pub quotient-divides : {a e d : ℕ} → 0 < e → IsGcd a e d → 0 < d
+quotient-divides {a} {e} {d} turns gcd = divides-pos d e turns (gcd .common .1)
 
 -- the climb --------------------------------------------------------------------------------------------------------------------------------
 -- a ratio that the climb has come to is one to search at
@@ -342,35 +409,36 @@ module _ {S : Shape} {D : ℕ → ℕ} where
           low = λ v. le-trans (least-low query x (end .keeps z) (end .least z) v) (mul-le-mul {n₁ = Q} {m₁ = (n - 1) * 1000000} {n₂ = 3840} {m₂ = 255000000} (rising .Q-low) (omega (arith, query .few-transitions)));
         }
 
-    -- one is, and is divided through by d
-    module _ {d : ℕ} (live : Live S) (few : n ≤ 256) (z : f ≡ true) (gcd : IsGcd a e d) where
-      turns : 0 < e
-      turns = let w = end .walk z in omega (arith, closed-turns S live (w .at) (w .walk) (w .some-rule) (w .closed), w .offsets-are)
+-- a closed walk's quotient, in lowest terms, is a ratio to come to
+module _ {S : Shape} {D : ℕ → ℕ} {n a e : ℕ} (live : Live S) (few : n ≤ 256) (w : LowWalk S D n a e) where
+  pub walk-turns : 0 < e
+  walk-turns = let c = w .is-walk in omega (arith, closed-turns S live (c .at) (c .walk) (c .some-rule) (c .closed), c .offsets-are)
 
-      pub rising-divides : 0 < d
-      rising-divides = divides-pos d e turns (gcd .common .1)
+  module _ {p q : ℕ} (red : Quotient a e p q) where
+    pub rising-walk : Rising S D p q
+    rising-walk =
+        let r = red .1 in
+        let turns = walk-turns in
+        let d-pos = divides-pos (red .0) e turns (q, r .Q-is) in
+        record {
+          P-low = omega (arith, r .P-is, mul-le-mul-left p d-pos, w .delays-low);
+          Q-low = omega (arith, r .Q-is, mul-le-mul-left q d-pos, w .offsets-low);
+          Q-pos = divides-pos q e turns (red .0, omega (arith, r .Q-is));
+          lowest = r .lowest;
+          attained = inr (a, e, w .is-walk, omega (arith, ap (λ t. q * t) (r .P-is), ap (λ t. p * t) (r .Q-is)));
+        }
 
-      red : Reduces a e (a / d) (e / d) d
-      red = gcd-quotients a e d turns gcd
+    -- above P/Q, it leaves fewer steps
+    pub rising-less : {P Q : ℕ} → Rising S D P Q → P * e < Q * a → left p q < left P Q
+    rising-less {P} {Q} rising higher =
+        omega (
+          arith,
+          climbs 3840 P Q p q (rising .Q-pos) (rising-walk .Q-pos) (rising .Q-low) (rising-walk .Q-low) above,
+          most,
+        )
+      where
+        above : P * q < p * Q
+        above = lt-of-mul-lt-mul-right (red .0) (omega (arith, higher, ap (λ t. Q * t) (red .1 .P-is), ap (λ t. P * t) (red .1 .Q-is)))
 
-      pub rising-next : Rising S D (a / d) (e / d)
-      rising-next =
-          record {
-            P-low = omega (arith, div-le-self a d, end .delays-low z);
-            Q-low = omega (arith, div-le-self e d, end .offsets-low z);
-            Q-pos = divides-pos (e / d) e turns (d, omega (arith, red .Q-is));
-            lowest = red .lowest;
-            attained = inr (a, e, end .walk z, omega (arith, ap (λ t. e / d * t) (red .P-is), ap (λ t. a / d * t) (red .Q-is)));
-          }
-
-      pub rising-less : left (a / d) (e / d) < left P Q
-      rising-less =
-          omega (
-            arith,
-            climbs 3840 P Q (a / d) (e / d) (rising .Q-pos) (rising-next .Q-pos) (rising .Q-low) (rising-next .Q-low) above,
-            div-le-self (a / d * (3840 * 3840)) (e / d),
-            rising-next .P-low,
-          )
-        where
-          above : P * (e / d) < a / d * Q
-          above = lt-of-mul-lt-mul-right d (omega (arith, end .above z, ap (λ t. Q * t) (red .P-is), ap (λ t. P * t) (red .Q-is)))
+        most : p * (3840 * 3840) / q ≤ 3774873600000000
+        most = omega (arith, div-le-self (p * (3840 * 3840)) q, rising-walk .P-low)

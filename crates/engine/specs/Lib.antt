@@ -2,6 +2,8 @@ pub mod Columns
 pub mod Search
 pub mod Scan
 pub mod Climbing
+pub mod Above
+pub mod Order
 pub mod Sum
 pub mod Listed
 pub mod Peel

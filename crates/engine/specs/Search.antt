@@ -3,7 +3,9 @@
 --   Valid S par                   == par holds 1 more than the number of a rule into the transition, or 0
 --   ParentLoop S D par n a e      == a closed walk of parents, not empty, of delay sum a and offset sum e
 --   Scanned S D n par f a e       == what a look at all parents finds: such a walk (f), or every transition is grounded
---   Passed S D P Q C k x₀ x par f == a pass from x₀ to x, the one after k passes, that raised something (f) or nothing
+--   Passed S D P Q c k x₀ x par f == a pass from x₀ to x, the one after k passes, that raised something (f) or nothing
+--   LowWalk S D n a e             == a closed walk, not empty, with sums that n rules can have
+--   Started S D n f a e           == such a walk, where one was found (f)
 --   Settled S D P Q n x f a e     == the search at P/Q ended: with the least values that keep every rule, or with a closed walk above P/Q (f)
 --   Reached S D P Q x             == the climb ended at P/Q, with the values x
 use mathlib.Core.Path.{_≡_}
@@ -38,19 +40,25 @@ pub record Scanned (S : Shape) (D : ℕ → ℕ) (n : ℕ) (par : List ℕ) (f :
   pub some : f ≡ true → ParentLoop S D par n a e
   pub none : f ≡ false → (v : ℕ) → v < n → Grounded S n par v
 
--- no value rises by more than C in a pass
-pub record Passed (S : Shape) (D : ℕ → ℕ) (P Q C k : ℕ) (x₀ x par : List ℕ) (f : Bool) : Type 0 where
-  pub raised : Raised S D P Q C (suc k) x par
+-- no value is above c afterwards
+pub record Passed (S : Shape) (D : ℕ → ℕ) (P Q c k : ℕ) (x₀ x par : List ℕ) (f : Bool) : Type 0 where
+  pub raised : Raised S D P Q c (suc k) x par
   pub quiet : f ≡ false → Keeps S D P Q x
   pub busy : f ≡ true → (r : ℕ) × (r < S.rules) × (getD x₀ (S.target r) 0 < getD x (S.target r) 0)
+
+pub record LowWalk (S : Shape) (D : ℕ → ℕ) (n a e : ℕ) : Type 0 where
+  pub is-walk : ClosedWalk S D a e
+  pub delays-low : a ≤ n * 1000000
+  pub offsets-low : e ≤ n * 15
+
+pub record Started (S : Shape) (D : ℕ → ℕ) (n : ℕ) (f : Bool) (a e : ℕ) : Type 0 where
+  pub walk : f ≡ true → LowWalk S D n a e
 
 pub record Settled (S : Shape) (D : ℕ → ℕ) (P Q n : ℕ) (x : List ℕ) (f : Bool) (a e : ℕ) : Type 0 where
   pub keeps : f ≡ false → Keeps S D P Q x
   pub least : f ≡ false → (Y : List ℕ) → Keeps S D P Q Y → Below x Y
-  pub walk : f ≡ true → ClosedWalk S D a e
+  pub walk : f ≡ true → LowWalk S D n a e
   pub above : f ≡ true → P * e < Q * a
-  pub delays-low : f ≡ true → a ≤ n * 1000000
-  pub offsets-low : f ≡ true → e ≤ n * 15
 
 -- no value is above the delays of 255 rules, times 3,840
 pub record Reached (S : Shape) (D : ℕ → ℕ) (P Q : ℕ) (x : List ℕ) : Type 0 where

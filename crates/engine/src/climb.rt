@@ -2,13 +2,19 @@
 // x holds the values of the transitions; par 1 more than the number of the rule that last raised each, and 0 for none.
 use crate::scan::Met;
 ghost use mathlib.Core.Path.{_≡_};
-ghost use Prim.Native.Nat.{_*_};
+ghost use Prim.Native.Nat.{_*_, _<_};
 ghost use lib.ListN.{length};
 ghost use Rattle.model.specs.Loop.{Live};
 ghost use Rattle.theory.specs.Ratio.{IsGcd};
 ghost use Rattle.engine.specs.Columns.{shape, delayAt, Limits, Short};
 ghost use Rattle.engine.specs.Search.{Settled, Reached};
-ghost use Rattle.engine.specs.Climbing.{Asks, Risen, Query, Ready, Ended};
+ghost use Rattle.engine.specs.Climbing.{Asks, Risen, Query, Ready, Ended, Carried, Quotient};
+
+fn wide(x: u16) -> usize
+    ensures { λ r. ⌜ r ≡ x ⌝ }
+{
+    x as usize
+}
 
 // Rule i, from s to t with offset e and delay a, raises its target to what it asks at p/q, and is then its parent.
 fn raise(
@@ -63,18 +69,45 @@ fn pass(
     changed
 }
 
+// The rules that `order` names, in that order. Values may rise in any order: what it names twice, or leaves out, does no harm.
+fn carry(
+    source: &[u16; 2048],
+    target: &[u16; 2048],
+    offset: &[u16; 2048],
+    delay: &[u32; 2048],
+    order: &[u16; 2048],
+    m: usize,
+    p: u64,
+    q: u64,
+    x: &mut [u64; 256],
+    par: &mut [u16; 256],
+)
+    requires { ⌜ Ready (shape (now source) (now target) (now offset) m) (delayAt (now delay)) p q (now x) (now par) ⌝ }
+    ensures { λ r. ⌜ Carried (shape (now (source .entry)) (now (target .entry)) (now (offset .entry)) m) (delayAt (now (delay .entry))) p q (now (x .entry)) (now (par .entry)) (now (x .exit)) (now (par .exit)) ⌝ }
+{
+    let mut k = 0;
+    while k < m {
+        let i = wide(order[k]);
+        if i < m {
+            raise(i, source[i], target[i], offset[i], delay[i], p, q, x, par);
+        }
+        k += 1;
+    }
+}
+
 // How the search at one ratio ended: with the values x, or with a closed walk above the ratio.
 struct Search {
     met: Met,
     x: [u64; 256],
 }
 
-// Passes from zeros at p/q, until one raises nothing or the parents come round. Pass number n does one or the other.
+// Passes from zeros at p/q, in the order given and then in the file's, until one raises nothing or the parents come round. The n-th does one or the other.
 fn settle(
     source: &[u16; 2048],
     target: &[u16; 2048],
     offset: &[u16; 2048],
     delay: &[u32; 2048],
+    order: &[u16; 2048],
     m: usize,
     n: usize,
     p: u64,
@@ -88,6 +121,18 @@ fn settle(
     let mut par = [0u16; 256];
     let mut k = 0usize; // passes done: less than n, so the loop ends
     loop {
+        carry(
+            source,
+            target,
+            offset,
+            delay,
+            order,
+            m,
+            p,
+            q,
+            &mut x,
+            &mut par,
+        );
         if pass(source, target, offset, delay, m, p, q, &mut x, &mut par) {
             let met = crate::scan::scan(source, target, offset, delay, m, n, &par);
             if met.found {
@@ -119,6 +164,20 @@ fn gcd(a: u64, b: u64) -> u64
     x
 }
 
+struct Ratio {
+    p: u64,
+    q: u64,
+}
+
+// a/e in lowest terms.
+fn quotient(a: u64, e: u64) -> Ratio
+    requires { ⌜ 0 < e ⌝ }
+    ensures { λ r. ⌜ Quotient a e (r .p) (r .q) ⌝ }
+{
+    let d = gcd(a, e);
+    Ratio { p: a / d, q: e / d }
+}
+
 // The ratio at which the climb ended, in lowest terms, and the least values that keep every rule there.
 pub struct Top {
     pub p: u64,
@@ -126,12 +185,13 @@ pub struct Top {
     pub x: [u64; 256],
 }
 
-// From 0/1 to the ratio of a closed walk above, and again, until no closed walk is above.
+// From the first ratio to that of a closed walk above, and again, until no closed walk is above.
 pub fn climb(
     source: &[u16; 2048],
     target: &[u16; 2048],
     offset: &[u16; 2048],
     delay: &[u32; 2048],
+    order: &[u16; 2048],
     m: usize,
     n: usize,
 ) -> Top
@@ -140,13 +200,19 @@ pub fn climb(
 {
     let mut p = 0u64;
     let mut q = 1u64;
+    let first = crate::above::start(source, target, offset, delay, order, m, n);
+    if first.found {
+        let ratio = quotient(first.delays, first.offsets);
+        p = ratio.p;
+        q = ratio.q;
+    }
     loop {
-        let ended = settle(source, target, offset, delay, m, n, p, q);
+        let ended = settle(source, target, offset, delay, order, m, n, p, q);
         let met = ended.met;
         if met.found {
-            let d = gcd(met.delays, met.offsets);
-            p = met.delays / d;
-            q = met.offsets / d;
+            let ratio = quotient(met.delays, met.offsets);
+            p = ratio.p;
+            q = ratio.q;
         } else {
             let x = ended.x;
             return Top { p: p, q: q, x: x };

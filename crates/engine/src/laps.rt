@@ -10,6 +10,7 @@ use crate::End;
 use crate::Lap;
 use crate::climb;
 use crate::first;
+use crate::order;
 
 pub const LOOP: u32 = 5;
 
@@ -69,13 +70,14 @@ fn measured(
     target: &[u16; 2048],
     offset: &[u16; 2048],
     delay: &[u32; 2048],
+    order: &[u16; 2048],
     m: usize,
     n: usize,
 ) -> Side
     requires { ⌜ (Limits (now source) (now target) (now offset) m n) × (Short (now delay) m) × (Live (shape (now source) (now target) (now offset) m)) ⌝ }
     ensures { λ r. ⌜ Sided (shape (now (source .entry)) (now (target .entry)) (now (offset .entry)) m) (delayAt (now (delay .entry))) n (r .p) (r .q) (r .len) (r .rules) (r .x) ⌝ }
 {
-    let top = climb::climb(source, target, offset, delay, m, n);
+    let top = climb::climb(source, target, offset, delay, order, m, n);
     let p = top.p;
     let q = top.q;
     let x = top.x;
@@ -155,12 +157,13 @@ pub fn laps(
     if 0 < zero.len {
         return refused(LOOP, zero.at);
     }
-    let low = measured(source, target, offset, least, m, n);
+    let order = order::order(source, target, offset, m, n);
+    let low = measured(source, target, offset, least, &order, m, n);
     if low.len == 0 {
         return refused(FLAT, 0);
     }
     if blank {
-        let high = measured(source, target, offset, greatest, m, n);
+        let high = measured(source, target, offset, greatest, &order, m, n);
         return answered(n, low, high);
     }
     answered(n, low, low)

@@ -1,8 +1,10 @@
 // The engine: the lap of a table, and whether a loop of it has no turn. Everything that works on columns is private.
+mod above;
 mod climb;
 mod columns;
 mod first;
 mod laps;
+mod order;
 mod scan;
 
 ghost use Rattle.engine.specs.Lap.{LapOf};

@@ -1,64 +1,65 @@
 -- `climb::climb` meets its contract. The loop's invariant: the climb has come to p/q (`Rising`). The measure is the steps left above p/q.
 -- Assumes nothing.
-use native.Mathlib.Omega.{arith}
+use mathlib.Core.Logic.{⊎-elim}
 use Rattle.engine.specs.Columns.{shape, delayAt}
-use Rattle.engine.specs.Climbing.{Rising, left, rising-start, rising-query, rising-end, rising-divides, rising-next, rising-less}
+use Rattle.engine.specs.Climbing.{Rising, left, rising-start, rising-query, rising-end, walk-turns, rising-walk, rising-less}
 use Rattle.engine.proofs.climb.climb.Statement.{statement}
 use Rattle.engine.proofs.climb.climb.Tie as tie
 
 abbrev Inv-loop : tie.InvT-loop
-Inv-loop source target offset delay m n p₀ q₀ p q = Rising (shape source target offset m) (delayAt delay) p q
+Inv-loop source target offset delay order m n p₀ q₀ p q = Rising (shape source target offset m) (delayAt delay) p q
 
 abbrev μ-loop : tie.MeasureT-loop
-μ-loop source target offset delay m n p₀ q₀ p q = left p q
+μ-loop source target offset delay order m n p₀ q₀ p q = left p q
+
+start-requires : tie.Need-start-requires Inv-loop μ-loop
+start-requires c κs = (c .pre .0, c .pre .1)
+
+quotient-requires : tie.Need-quotient-requires Inv-loop μ-loop
+quotient-requires c κs =
+    let f = c .before in
+    walk-turns (f .before .pre .2) (f .before .pre .0 .few-transitions) (f .start .ensures .walk (c .if1 .taken))
 
 loop-holds : tie.Need-loop-holds Inv-loop μ-loop
-loop-holds c = rising-start
+loop-holds c =
+    let f = c .before in
+    ⊎-elim
+    (λ w. rw (w .2, w .3) (rising-walk (f .before .pre .2) (f .before .pre .0 .few-transitions) (f .start .ensures .walk (w .0 .taken)) (w .1 .ensures)))
+    (λ w. rw (w .1, w .2) rising-start)
+    (c .if1 .came)
 
 settle-requires : tie.Need-settle-requires Inv-loop μ-loop
-settle-requires c κs = rising-query (c .before .args .delay .now) (c .before .pre .0) (c .before .pre .1) (c .loop .inv)
+settle-requires c κs =
+    let s = c .before .before .before in
+    rising-query (s .args .delay .now) (s .pre .0) (s .pre .1) (c .loop .inv)
 
-gcd-requires : tie.Need-gcd-requires Inv-loop μ-loop
-gcd-requires c κs = omega arith
-
-div-p : tie.Need-div-p Inv-loop μ-loop
-div-p c =
-    let g = c .before in
-    let e = g .before .before .before in
-    let l = e .before in
-    let s = l .before in
-    rising-divides (l .loop .inv) (e .settle .ensures .0) (s .pre .2) (s .pre .0 .few-transitions) (g .before .if1 .taken) (g .gcd .ensures)
-
-div-q : tie.Need-div-q Inv-loop μ-loop
-div-q c =
-    let g = c .before .before in
-    let e = g .before .before .before in
-    let l = e .before in
-    let s = l .before in
-    rising-divides (l .loop .inv) (e .settle .ensures .0) (s .pre .2) (s .pre .0 .few-transitions) (g .before .if1 .taken) (g .gcd .ensures)
+quotient-requires-2 : tie.Need-quotient-requires-2 Inv-loop μ-loop
+quotient-requires-2 c κs =
+    let e = c .before .before in
+    let s = e .before .before .before .before in
+    walk-turns (s .pre .2) (s .pre .0 .few-transitions) (e .settle .ensures .0 .walk (c .if2 .taken))
 
 loop-less : tie.Need-loop-less Inv-loop μ-loop
 loop-less c =
-    let g = c .before .before in
-    let e = g .before .before .before in
-    let l = e .before in
-    let s = l .before in
-    rising-less (l .loop .inv) (e .settle .ensures .0) (s .pre .2) (s .pre .0 .few-transitions) (g .before .if1 .taken) (g .gcd .ensures)
+    let t = c .before in
+    let e = t .before .before in
+    let s = e .before .before .before .before in
+    let end = e .settle .ensures .0 in
+    rising-less (s .pre .2) (s .pre .0 .few-transitions) (end .walk (t .if2 .taken)) (c .quotient2 .ensures) (e .before .loop .inv) (end .above (t .if2 .taken))
 
 loop-again : tie.Need-loop-again Inv-loop μ-loop
 loop-again c =
-    let g = c .before .before in
-    let e = g .before .before .before in
-    let l = e .before in
-    let s = l .before in
-    rising-next (l .loop .inv) (e .settle .ensures .0) (s .pre .2) (s .pre .0 .few-transitions) (g .before .if1 .taken) (g .gcd .ensures)
+    let t = c .before in
+    let e = t .before .before in
+    let s = e .before .before .before .before in
+    rising-walk (s .pre .2) (s .pre .0 .few-transitions) (e .settle .ensures .0 .walk (t .if2 .taken)) (c .quotient2 .ensures)
 
 returns : tie.Need-returns Inv-loop μ-loop
 returns c =
     let e = c .before .before .before in
     let l = e .before in
-    let s = l .before in
-    rising-end (l .loop .inv) (e .settle .ensures .0) (rising-query (s .args .delay .now) (s .pre .0) (s .pre .1) (l .loop .inv)) (e .settle .ensures .1) (c .before .if1 .left)
+    let s = e .before .before .before .before in
+    rising-end (l .loop .inv) (e .settle .ensures .0) (rising-query (s .args .delay .now) (s .pre .0) (s .pre .1) (l .loop .inv)) (e .settle .ensures .1) (c .before .if2 .left)
 
 pub climb-spec : {M : Type 1} → statement M
 climb-spec =
@@ -66,11 +67,11 @@ climb-spec =
     (tie.spec
     Inv-loop
     μ-loop
+    start-requires
+    quotient-requires
     loop-holds
     settle-requires
-    gcd-requires
-    div-p
-    div-q
+    quotient-requires-2
     loop-less
     loop-again
     returns)

@@ -1,42 +1,45 @@
--- `climb::settle` meets its contract. The loop's invariant: x and par are the values and parents after k passes, and k < n. The measure is n - k.
+-- `climb::settle` meets its contract. The loop's invariant: x and par are the values and parents after k passes of each kind, and k < n. The measure is n - k.
 -- Assumes nothing.
 use Prim.Native.Nat.{_-_}
 use native.Mathlib.Omega.{arith}
 use Rattle.engine.specs.Columns.{shape, delayAt}
-use Rattle.engine.specs.Climbing.{Settling, settling-start, settling-ready, settling-sound, settling-quiet, settling-found, settling-on}
+use Rattle.engine.specs.Climbing.{Settling, settling-start, settling-ready, settling-carried, settling-sound, settling-quiet, settling-found, settling-on}
 use Rattle.engine.proofs.climb.settle.Statement.{statement}
 use Rattle.engine.proofs.climb.settle.Tie as tie
 
 abbrev Inv-loop : tie.InvT-loop
-Inv-loop source target offset delay m n p q x₀ par₀ k₀ x par k = Settling (shape source target offset m) (delayAt delay) p q n x par k
+Inv-loop source target offset delay order m n p q x₀ par₀ k₀ x par k = Settling (shape source target offset m) (delayAt delay) p q n x par k
 
 abbrev μ-loop : tie.MeasureT-loop
-μ-loop source target offset delay m n p q x₀ par₀ k₀ x par k = n - k
+μ-loop source target offset delay order m n p q x₀ par₀ k₀ x par k = n - k
 
 loop-holds : tie.Need-loop-holds Inv-loop μ-loop
 loop-holds c = settling-start (c .pre)
 
-pass-requires : tie.Need-pass-requires Inv-loop μ-loop
-pass-requires c κs =
+carry-requires : tie.Need-carry-requires Inv-loop μ-loop
+carry-requires c κs =
     let l = c .before .before in
     settling-ready (l .before .pre) (l .loop .inv)
 
+pass-requires : tie.Need-pass-requires Inv-loop μ-loop
+pass-requires c κs =
+    let l = c .before .before .before .before .before in
+    settling-carried (l .before .pre) (l .loop .inv) (c .before .before .carry .ensures)
+
 scan-requires : tie.Need-scan-requires Inv-loop μ-loop
 scan-requires c κs =
-    let l = c .before .before .before .before .before in
-    let s = l .before in
-    let q = s .pre in (
+    let l = c .before .before .before .before .before .before .before .before in
+    let q = l .before .pre in (
       record { few-rules = q .few-rules; some-transition = q .some-transition; few-transitions = q .few-transitions; fits = q .fits; small-offsets = q .small-offsets },
       q .short,
-      settling-sound (s .pre) (l .loop .inv) (c .before .before .pass .ensures) .valid,
+      settling-sound q (l .loop .inv) (c .before .before .before .before .before .carry .ensures) (c .before .before .pass .ensures) .valid,
     )
 
 returns : tie.Need-returns Inv-loop μ-loop
 returns c =
-    let l = c .before .before .before .before .before .before .before in
-    let s = l .before in
+    let l = c .before .before .before .before .before .before .before .before .before .before in
     let rose = c .before .before .before .before .pass .ensures in
-    (settling-found (s .pre) (l .loop .inv) rose (c .before .scan .ensures) (c .if2 .taken), rose .x-room)
+    (settling-found (l .before .pre) (l .loop .inv) (c .before .before .before .before .before .before .before .carry .ensures) rose (c .before .scan .ensures) (c .if2 .taken), rose .x-room)
 
 add-k : tie.Need-add-k Inv-loop μ-loop
 add-k c = omega arith
@@ -46,15 +49,13 @@ loop-less c = omega arith
 
 loop-again : tie.Need-loop-again Inv-loop μ-loop
 loop-again c =
-    let l = c .before .before .before .before .before .before .before in
-    let s = l .before in
-    settling-on (s .pre) (l .loop .inv) (c .before .before .before .before .pass .ensures) (c .before .scan .ensures) (c .before .before .before .if1 .taken) (c .if2 .left)
+    let l = c .before .before .before .before .before .before .before .before .before .before in
+    settling-on (l .before .pre) (l .loop .inv) (c .before .before .before .before .before .before .before .carry .ensures) (c .before .before .before .before .pass .ensures) (c .before .scan .ensures) (c .before .before .before .if1 .taken) (c .if2 .left)
 
 returns-2 : tie.Need-returns-2 Inv-loop μ-loop
 returns-2 c =
-    let l = c .before .before .before .before in
-    let s = l .before in
-    (settling-quiet (s .pre) (l .loop .inv) (c .before .pass .ensures) (c .if1 .left), c .before .pass .ensures .x-room)
+    let l = c .before .before .before .before .before .before .before in
+    (settling-quiet (l .before .pre) (l .loop .inv) (c .before .before .before .before .carry .ensures) (c .before .pass .ensures) (c .if1 .left), c .before .pass .ensures .x-room)
 
 pub settle-spec : {M : Type 1} → statement M
 settle-spec =
@@ -63,6 +64,7 @@ settle-spec =
     Inv-loop
     μ-loop
     loop-holds
+    carry-requires
     pass-requires
     scan-requires
     returns
