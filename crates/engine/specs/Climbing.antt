@@ -9,14 +9,14 @@
 --   Carried S D P Q x₀ par₀ x par   == what a pass in another order promises, which need not come to every rule
 --   Going S D P Q x₀ par₀ x par Done j  == a pass that began at x₀ and par₀: j rules have asked, and those that are Done
 --   Told S x₀ x f                   == from x₀ to x something rose (f) or nothing
---   Settling S D P Q n x par k      == the search at P/Q, after k passes of each kind
+--   Settling S D P Q n x par k      == the search at P/Q, after k passes over all rules and some others
 --   Rising S D P Q                  == the climb has come to P/Q
 --   Quotient a e p q                == p/q is a/e in lowest terms
 --   left P Q                        == the steps of 1/3840² that are left above P/Q
 --   going-start, going-asks, going-on, going-skip, going-end, going-carried, told-start, told-raise, told-keep   the loop of a pass
---   settling-start, settling-ready, settling-carried, settling-sound, settling-quiet, settling-found, settling-on            the loop of passes
+--   settling-zeros, settling-start, settling-ready, settling-carried, settling-scanned, settling-sound, settling-quiet, settling-found, settling-on            the loop of passes
 --   least-low                       the least values that keep every rule are low
---   rising-start, rising-query, rising-end, walk-turns, rising-walk, rising-less                           the loop of ratios
+--   rising-start, rising-query, query-limits, rising-end, walk-turns, rising-walk, rising-less                           the loop of ratios
 use mathlib.Core.Path.{_≡_, refl, sym, ap, subst}
 use mathlib.Core.Bool.{Bool, true, false}
 use mathlib.Core.Logic.{_⊎_, inl, inr, ⊎-elim, by-cases}
@@ -50,15 +50,15 @@ use Rattle.engine.specs.Search.{ParentLoop, Scanned, Passed, LowWalk, Se
 abbrev pub rise : ℕ
 rise = 7864320000000
 
--- values up to 2^52: as many passes as there are transitions stay below that
+-- values up to 2^53: three times as many passes as there are transitions stay below that
 pub record Asks (i s t g h : ℕ) (x : List ℕ) : Type 0 where
   pub rule-low : i < 2048
   pub source-low : s < 256
   pub target-low : t < 256
   pub more : g ≤ 3840000000
   pub less : h ≤ 3840000000
-  pub source-value : getD x s 0 ≤ 4503599627370496
-  pub target-value : getD x t 0 ≤ 4503599627370496
+  pub source-value : getD x s 0 ≤ 9007199254740992
+  pub target-value : getD x t 0 ≤ 9007199254740992
 
 pub record Risen (i s t g h : ℕ) (x₀ par₀ x par : List ℕ) (f : Bool) : Type 0 where
   pub raised : f ≡ true → (getD x₀ t 0 + h < getD x₀ s 0 + g) × (x ≡ set x₀ t (getD x₀ s 0 + g - h)) × (par ≡ set par₀ t (i + 1))
@@ -74,14 +74,14 @@ pub record Query (S : Shape) (D : ℕ → ℕ) (n P Q : ℕ) : Type 0 where
   pub P-low : P ≤ 256000000
   pub Q-low : Q ≤ 3840
 
--- no value has risen further than in 511 passes
+-- no value has risen further than in 768 passes
 pub record Ready (S : Shape) (D : ℕ → ℕ) (P Q : ℕ) (x par : List ℕ) : Type 0 where
   pub query : Query S D 256 P Q
   pub x-room : length x ≡ 256
   pub par-room : length par ≡ 256
   pub most : ℕ
   pub passes : ℕ
-  pub low : most ≤ 511 * rise
+  pub low : most ≤ 768 * rise
   pub raised : Raised S D P Q most passes x par
 
 pub record Ended (S : Shape) (D : ℕ → ℕ) (P Q : ℕ) (x₀ par₀ x par : List ℕ) (f : Bool) : Type 0 where
@@ -107,7 +107,7 @@ pub record Settling (S : Shape) (D : ℕ → ℕ) (P Q n : ℕ) (x par : List �
   pub few-passes : k < n
   pub x-room : length x ≡ 256
   pub par-room : length par ≡ 256
-  pub raised : Raised S D P Q (k * (2 * rise)) k x par
+  pub raised : Raised S D P Q (k * (3 * rise) + rise) k x par
 
 pub record Rising (S : Shape) (D : ℕ → ℕ) (P Q : ℕ) : Type 0 where
   pub P-low : P ≤ 256000000
@@ -158,7 +158,7 @@ module _ {S : Shape} {D : ℕ → ℕ} {P Q : ℕ} {x₀ par₀ : List ℕ} (rea
     so-far : Passing S D P Q 1000000 (ready .most) x₀ x par Done j
     so-far = h .passing (ready .most) (ready .passes) (ready .raised)
 
-    low : (v : ℕ) → getD x v 0 ≤ 4503599627370496
+    low : (v : ℕ) → getD x v 0 ≤ 9007199254740992
     low v = omega (arith, so-far .most v, ready .low, added j few)
 
     pub going-asks : Asks i (S.source i) (S.target i) (Q * D i) (P * S.offset i) x
@@ -258,15 +258,6 @@ walk-of w =
 
 -- the search at one ratio ------------------------------------------------------------------------------------------------------------------
 module _ {S : Shape} {D : ℕ → ℕ} {n P Q : ℕ} (query : Query S D n P Q) where
-  pub settling-start : Settling S D P Q n (replicate 256 0) (replicate 256 0) 0
-  settling-start =
-      record {
-        few-passes = query .some-transition;
-        x-room = length-replicate {A = ℕ} 256 0;
-        par-room = length-replicate {A = ℕ} 256 0;
-        raised = raised-start S D P Q 256;
-      }
-
   wide : Query S D 256 P Q
   wide =
       record {
@@ -280,26 +271,55 @@ module _ {S : Shape} {D : ℕ → ℕ} {n P Q : ℕ} (query : Query S D n P Q) w
         Q-low = query .Q-low;
       }
 
+  -- zeros, and the parents given
+  pub settling-zeros : Ready S D P Q (replicate 256 0) (replicate 256 0)
+  settling-zeros =
+      record {
+        query = wide;
+        x-room = length-replicate {A = ℕ} 256 0;
+        par-room = length-replicate {A = ℕ} 256 0;
+        most = 0;
+        passes = 0;
+        low = omega arith;
+        raised = raised-start S D P Q 256;
+      }
+
+  pub settling-start : {x par : List ℕ} → Carried S D P Q (replicate 256 0) (replicate 256 0) x par → Settling S D P Q n x par 0
+  settling-start carried =
+      record { few-passes = query .some-transition; x-room = carried .x-room; par-room = carried .par-room; raised = carried .raised 0 0 (raised-start S D P Q 256) }
+
   module _ {x₀ par₀ : List ℕ} {k : ℕ} (h : Settling S D P Q n x₀ par₀ k) where
     pub settling-ready : Ready S D P Q x₀ par₀
     settling-ready =
-        record { query = wide; x-room = h .x-room; par-room = h .par-room; most = k * (2 * rise); passes = k; low = omega (arith, h .few-passes, query .few-transitions); raised = h .raised }
+        record { query = wide; x-room = h .x-room; par-room = h .par-room; most = k * (3 * rise) + rise; passes = k; low = omega (arith, h .few-passes, query .few-transitions); raised = h .raised }
 
     -- a pass in another order, and then one in the file's order
     module _ {x₁ par₁ : List ℕ} (carried : Carried S D P Q x₀ par₀ x₁ par₁) where
-      between : Raised S D P Q (k * (2 * rise) + rise) k x₁ par₁
+      between : Raised S D P Q (k * (3 * rise) + rise + rise) k x₁ par₁
       between = carried .raised _ k (h .raised)
 
       pub settling-carried : Ready S D P Q x₁ par₁
       settling-carried =
-          record { query = wide; x-room = carried .x-room; par-room = carried .par-room; most = k * (2 * rise) + rise; passes = k; low = omega (arith, h .few-passes, query .few-transitions); raised = between }
+          record { query = wide; x-room = carried .x-room; par-room = carried .par-room; most = k * (3 * rise) + rise + rise; passes = k; low = omega (arith, h .few-passes, query .few-transitions); raised = between }
 
       module _ {x par : List ℕ} {f : Bool} (ended : Ended S D P Q x₁ par₁ x par f) where
-        passed : Passed S D P Q (k * (2 * rise) + rise + rise) k x₁ x par f
+        passed : Passed S D P Q (k * (3 * rise) + rise + rise + rise) k x₁ x par f
         passed = ended .passed _ k between
 
         pub settling-sound : Sound S D P Q x par
         settling-sound = passed .raised .sound
+
+        pub settling-scanned : Ready S D P Q x par
+        settling-scanned =
+            record {
+              query = wide;
+              x-room = ended .x-room;
+              par-room = ended .par-room;
+              most = k * (3 * rise) + rise + rise + rise;
+              passes = suc k;
+              low = omega (arith, h .few-passes, query .few-transitions);
+              raised = passed .raised;
+            }
 
         -- nothing rose: the least values that keep every rule
         pub settling-quiet : f ≡ false → Settled S D P Q n x false 0 0
@@ -328,9 +348,15 @@ module _ {S : Shape} {D : ℕ → ℕ} {n P Q : ℕ} (query : Query S D n P Q) w
               round u (r ∷ rs) b c d ea ee = omega (arith, settling-sound .cycles u r rs c d, ap (λ t. Q * t) ea, ap (λ t. P * t) ee)
 
           -- they did not, though something rose: so this was not pass number n
-          pub settling-on : f ≡ true → g ≡ false → Settling S D P Q n x par (k + 1)
-          settling-on t none =
-              rw (add-one k) (record { few-passes = more (passed .busy t); x-room = ended .x-room; par-room = ended .par-room; raised = raised-most S D P Q {k = suc k} {X = x} {par = par} (omega arith) (passed .raised) })
+          pub settling-on : {x₂ par₂ : List ℕ} → f ≡ true → g ≡ false → Carried S D P Q x par x₂ par₂ → Settling S D P Q n x₂ par₂ (k + 1)
+          settling-on {x₂} {par₂} t none again =
+              rw (add-one k)
+              (record {
+                few-passes = more (passed .busy t);
+                x-room = again .x-room;
+                par-room = again .par-room;
+                raised = raised-most S D P Q {k = suc k} {X = x₂} {par = par₂} (omega arith) (again .raised _ (suc k) (passed .raised));
+              })
             where
               not-last : ((r : ℕ) × (r < S.rules) × (getD x₁ (S.target r) 0 < getD x (S.target r) 0)) → n ≤ suc k → ⊥
               not-last (r, is-rule, up) b =
@@ -384,6 +410,10 @@ rising-query delay l short rising =
       P-low = rising .P-low;
       Q-low = rising .Q-low;
     }
+
+pub query-limits : {source target offset : List ℕ} {m n P Q : ℕ} {D : ℕ → ℕ} → Query (shape source target offset m) D n P Q → Limits source target offset m n
+query-limits q =
+    record { few-rules = q .few-rules; some-transition = q .some-transition; few-transitions = q .few-transitions; fits = q .fits; small-offsets = q .small-offsets }
 
 module _ {S : Shape} {D : ℕ → ℕ} where
   -- 0/1 is in lowest terms

@@ -43,7 +43,12 @@ fn bid(i: usize, s: u16, t: u16, e: u16, a: u32, most: &mut [u64; 256], par: &mu
     }
 }
 
-// A closed walk of the parents so chosen, where there is one.
+// The parents so chosen, and a closed walk of them, where there is one.
+pub struct Parents {
+    pub met: Met,
+    pub par: [u16; 256],
+}
+
 pub fn start(
     source: &[u16; 2048],
     target: &[u16; 2048],
@@ -52,9 +57,9 @@ pub fn start(
     order: &[u16; 2048],
     m: usize,
     n: usize,
-) -> Met
+) -> Parents
     requires { ⌜ (Limits (now source) (now target) (now offset) m n) × (Short (now delay) m) ⌝ }
-    ensures { λ r. ⌜ Started (shape (now (source .entry)) (now (target .entry)) (now (offset .entry)) m) (delayAt (now (delay .entry))) n (r .found) (r .delays) (r .offsets) ⌝ }
+    ensures { λ r. ⌜ Started (shape (now (source .entry)) (now (target .entry)) (now (offset .entry)) m) (delayAt (now (delay .entry))) n (r .met .found) (r .met .delays) (r .met .offsets) ⌝ }
 {
     let mut most = [0u64; 256];
     let mut par = [0u16; 256];
@@ -74,5 +79,6 @@ pub fn start(
         }
         k += 1;
     }
-    crate::scan::scan(source, target, offset, delay, m, n, &par)
+    let met = crate::scan::scan(source, target, offset, delay, m, n, &par);
+    Parents { met: met, par: par }
 }

@@ -1,8 +1,9 @@
 // The climb from ratio to ratio: passes over the rules until nothing rises, or a closed walk above the ratio is found.
 // x holds the values of the transitions; par 1 more than the number of the rule that last raised each, and 0 for none.
+use crate::order;
 use crate::scan::Met;
 ghost use mathlib.Core.Path.{_≡_};
-ghost use Prim.Native.Nat.{_*_, _<_};
+ghost use Prim.Native.Nat.{_*_, _≤_, _<_};
 ghost use lib.ListN.{length};
 ghost use Rattle.model.specs.Loop.{Live};
 ghost use Rattle.theory.specs.Ratio.{IsGcd};
@@ -69,25 +70,26 @@ fn pass(
     changed
 }
 
-// The rules that `order` names, in that order. Values may rise in any order: what it names twice, or leaves out, does no harm.
+// The first `len` rules of a list. Values may rise in any order: what it names twice, or leaves out, does no harm.
 fn carry(
     source: &[u16; 2048],
     target: &[u16; 2048],
     offset: &[u16; 2048],
     delay: &[u32; 2048],
-    order: &[u16; 2048],
+    rules: &[u16; 2048],
+    len: usize,
     m: usize,
     p: u64,
     q: u64,
     x: &mut [u64; 256],
     par: &mut [u16; 256],
 )
-    requires { ⌜ Ready (shape (now source) (now target) (now offset) m) (delayAt (now delay)) p q (now x) (now par) ⌝ }
+    requires { ⌜ (len ≤ 2048) × Ready (shape (now source) (now target) (now offset) m) (delayAt (now delay)) p q (now x) (now par) ⌝ }
     ensures { λ r. ⌜ Carried (shape (now (source .entry)) (now (target .entry)) (now (offset .entry)) m) (delayAt (now (delay .entry))) p q (now (x .entry)) (now (par .entry)) (now (x .exit)) (now (par .exit)) ⌝ }
 {
     let mut k = 0;
-    while k < m {
-        let i = wide(order[k]);
+    while k < len {
+        let i = wide(rules[k]);
         if i < m {
             raise(i, source[i], target[i], offset[i], delay[i], p, q, x, par);
         }
@@ -95,13 +97,49 @@ fn carry(
     }
 }
 
-// How the search at one ratio ended: with the values x, or with a closed walk above the ratio.
+// The rules that are parents, from their roots on.
+fn follow(
+    source: &[u16; 2048],
+    target: &[u16; 2048],
+    offset: &[u16; 2048],
+    delay: &[u32; 2048],
+    m: usize,
+    n: usize,
+    parents: &[u16; 256],
+    p: u64,
+    q: u64,
+    x: &mut [u64; 256],
+    par: &mut [u16; 256],
+)
+    requires { ⌜ (Limits (now source) (now target) (now offset) m n) × Ready (shape (now source) (now target) (now offset) m) (delayAt (now delay)) p q (now x) (now par) ⌝ }
+    ensures { λ r. ⌜ Carried (shape (now (source .entry)) (now (target .entry)) (now (offset .entry)) m) (delayAt (now (delay .entry))) p q (now (x .entry)) (now (par .entry)) (now (x .exit)) (now (par .exit)) ⌝ }
+{
+    let list = order::roots_first(source, target, offset, m, n, parents);
+    let rules = list.rules;
+    carry(
+        source,
+        target,
+        offset,
+        delay,
+        &rules,
+        list.len,
+        m,
+        p,
+        q,
+        x,
+        par,
+    );
+}
+
+// How the search at one ratio ended: with the values x, or with a closed walk above the ratio; and the parents.
 struct Search {
     met: Met,
     x: [u64; 256],
+    par: [u16; 256],
 }
 
 // Passes from zeros at p/q, in the order given and then in the file's, until one raises nothing or the parents come round. The n-th does one or the other.
+// Before the first the parents given raise what they can, and between two those that there are.
 fn settle(
     source: &[u16; 2048],
     target: &[u16; 2048],
@@ -112,6 +150,7 @@ fn settle(
     n: usize,
     p: u64,
     q: u64,
+    parents: &[u16; 256],
 ) -> Search
     requires { ⌜ Query (shape (now source) (now target) (now offset) m) (delayAt (now delay)) n p q ⌝ }
     ensures { λ r. ⌜ Settled (shape (now (source .entry)) (now (target .entry)) (now (offset .entry)) m) (delayAt (now (delay .entry))) p q n (r .x) (r .met .found) (r .met .delays) (r .met .offsets) ⌝ }
@@ -119,6 +158,19 @@ fn settle(
 {
     let mut x = [0u64; 256];
     let mut par = [0u16; 256];
+    follow(
+        source,
+        target,
+        offset,
+        delay,
+        m,
+        n,
+        parents,
+        p,
+        q,
+        &mut x,
+        &mut par,
+    );
     let mut k = 0usize; // passes done: less than n, so the loop ends
     loop {
         carry(
@@ -128,6 +180,7 @@ fn settle(
             delay,
             order,
             m,
+            m,
             p,
             q,
             &mut x,
@@ -136,8 +189,26 @@ fn settle(
         if pass(source, target, offset, delay, m, p, q, &mut x, &mut par) {
             let met = crate::scan::scan(source, target, offset, delay, m, n, &par);
             if met.found {
-                return Search { met: met, x: x };
+                return Search {
+                    met: met,
+                    x: x,
+                    par: par,
+                };
             }
+            let raised = par;
+            follow(
+                source,
+                target,
+                offset,
+                delay,
+                m,
+                n,
+                &raised,
+                p,
+                q,
+                &mut x,
+                &mut par,
+            );
             k += 1;
         } else {
             let none = Met {
@@ -145,7 +216,11 @@ fn settle(
                 delays: 0,
                 offsets: 0,
             };
-            return Search { met: none, x: x };
+            return Search {
+                met: none,
+                x: x,
+                par: par,
+            };
         }
     }
 }
@@ -201,18 +276,21 @@ pub fn climb(
     let mut p = 0u64;
     let mut q = 1u64;
     let first = crate::above::start(source, target, offset, delay, order, m, n);
-    if first.found {
-        let ratio = quotient(first.delays, first.offsets);
+    let mut par = first.par;
+    let start = first.met;
+    if start.found {
+        let ratio = quotient(start.delays, start.offsets);
         p = ratio.p;
         q = ratio.q;
     }
     loop {
-        let ended = settle(source, target, offset, delay, order, m, n, p, q);
+        let ended = settle(source, target, offset, delay, order, m, n, p, q, &par);
         let met = ended.met;
         if met.found {
             let ratio = quotient(met.delays, met.offsets);
             p = ratio.p;
             q = ratio.q;
+            par = ended.par;
         } else {
             let x = ended.x;
             return Top { p: p, q: q, x: x };

@@ -1,5 +1,5 @@
-// The rules in an order in which those of offset 0 come source first: a pass in this order carries a value along all of them at once.
-// It is a hint. Passes in any order come to the same end, so nothing is promised of it.
+// Orders in which to raise values: the rules of offset 0 source first, and the parents from their roots on. A pass in such an order carries a value along
+// many rules at once. They are hints: passes in any order come to the same end, so nothing is promised of them.
 ghost use mathlib.Core.Path.{_≡_};
 ghost use Prim.Native.Nat.{ℕ, _≤_, _<_};
 ghost use lib.ListN.{getD};
@@ -197,4 +197,91 @@ pub fn order(
         at += 1;
     }
     rules
+}
+
+// Rules by number: the first `len` places of `rules`.
+pub struct List {
+    pub rules: [u16; 2048],
+    pub len: usize,
+}
+
+// Follows parents back from one transition to one that was seen, or that has none. `way` then holds the rules that were followed. Hands back their number.
+// (Never more than there are transitions: the guard spares a proof that a hint does not need, and with it the loop is seen to end.)
+fn trace(
+    source: &[u16; 2048],
+    par: &[u16; 256],
+    m: usize,
+    from: usize,
+    seen: &mut [u8; 256],
+    way: &mut [u16; 256],
+) -> usize
+    requires { ⌜ (m ≤ 2048) × ((r : ℕ) → r < m → getD (now source) r 0 < 256) × (from < 256) ⌝ }
+    ensures { λ r. ⌜ r ≤ 256 ⌝ }
+{
+    let mut k = 0;
+    let mut v = from;
+    while k < 256 {
+        if seen[v] == 1 {
+            return k;
+        }
+        seen[v] = 1;
+        let code = wide(par[v]);
+        if code == 0 {
+            return k;
+        }
+        if m < code {
+            return k;
+        }
+        let r = code - 1;
+        way[k] = narrow(r);
+        k += 1;
+        v = transition(source, r);
+    }
+    k
+}
+
+// Lists the first k rules of a way, the last first. Hands back how many are listed.
+fn append(way: &[u16; 256], k: usize, rules: &mut [u16; 2048], len: usize) -> usize
+    requires { ⌜ (k ≤ 256) × (len ≤ 2048) ⌝ }
+    ensures { λ r. ⌜ r ≤ 2048 ⌝ }
+{
+    let mut left = k;
+    let mut end = len;
+    while 0 < left {
+        if end == 2048 {
+            return end;
+        }
+        left -= 1;
+        rules[end] = way[left];
+        end += 1;
+    }
+    end
+}
+
+// The parents, each after that of its source.
+pub fn roots_first(
+    source: &[u16; 2048],
+    target: &[u16; 2048],
+    offset: &[u16; 2048],
+    m: usize,
+    n: usize,
+    par: &[u16; 256],
+) -> List
+    requires { ⌜ Limits (now source) (now target) (now offset) m n ⌝ }
+    ensures { λ r. ⌜ r .len ≤ 2048 ⌝ }
+{
+    let mut rules = [0u16; 2048];
+    let mut len = 0;
+    let mut seen = [0u8; 256];
+    let mut way = [0u16; 256];
+    let mut v = 0;
+    while v < n {
+        let k = trace(source, par, m, v, &mut seen, &mut way);
+        len = append(&way, k, &mut rules, len);
+        v += 1;
+    }
+    List {
+        rules: rules,
+        len: len,
+    }
 }

@@ -9,19 +9,19 @@ use Rattle.engine.proofs.climb.carry.Statement.{statement}
 use Rattle.engine.proofs.climb.carry.Tie as tie
 
 abbrev Inv-loop : tie.InvT-loop
-Inv-loop source target offset delay order m p q x₀ par₀ k₀ x par k = (k ≤ m) × Going (shape source target offset m) (delayAt delay) p q x₀ par₀ x par None k
+Inv-loop source target offset delay rules len m p q x₀ par₀ k₀ x par k = (k ≤ len) × Going (shape source target offset m) (delayAt delay) p q x₀ par₀ x par None k
 
 abbrev μ-loop : tie.MeasureT-loop
-μ-loop source target offset delay order m p q x₀ par₀ k₀ x par k = m - k
+μ-loop source target offset delay rules len m p q x₀ par₀ k₀ x par k = len - k
 
 loop-holds : tie.Need-loop-holds Inv-loop μ-loop
-loop-holds c = (omega arith, going-start (c .pre) None (λ r b. b))
+loop-holds c = (omega arith, going-start (c .pre .1) None (λ r b. b))
 
 mul-wide : tie.Need-mul-wide Inv-loop μ-loop
 mul-wide c = omega arith
 
 element-copy-out-wide : tie.Need-element-copy-out-wide Inv-loop μ-loop
-element-copy-out-wide c = let few = c .before .before .pre .query .few-rules in omega arith
+element-copy-out-wide c = let few = c .before .before .pre .0 in omega arith
 
 wide-requires : tie.Need-wide-requires Inv-loop μ-loop
 wide-requires c κs = omega arith
@@ -53,8 +53,8 @@ element-copy-out-raise-4 c = omega arith
 raise-requires : tie.Need-raise-requires Inv-loop μ-loop
 raise-requires c κs =
     let l = c .before .before .before .before .before .before .before .before .before .before in
-    let ready = l .before .pre in
-    going-asks ready (omega arith) (omega (arith, ready .query .few-rules)) (l .loop .inv .1)
+    let ready = l .before .pre .1 in
+    going-asks ready (omega arith) (omega (arith, l .before .pre .0)) (l .loop .inv .1)
 
 add-k : tie.Need-add-k Inv-loop μ-loop
 add-k c = omega arith
@@ -65,8 +65,8 @@ loop-less c = omega arith
 loop-again : tie.Need-loop-again Inv-loop μ-loop
 loop-again c =
     let l = c .before .before .before .before in
-    let ready = l .before .pre in
-    let few : l .loop .k ≤ 2048 = omega (arith, ready .query .few-rules) in (
+    let ready = l .before .pre .1 in
+    let few : l .loop .k ≤ 2048 = omega (arith, l .before .pre .0) in (
       omega arith,
       ⊎-elim
           (λ w. rw (w .8, w .9) (going-on ready (w .0 .taken) few (l .loop .inv .1) (w .7 .ensures) (λ r n. absurd n)))
@@ -77,8 +77,8 @@ loop-again c =
 returns : tie.Need-returns Inv-loop μ-loop
 returns c =
     let l = c .before in
-    let ready = l .before .pre in
-    going-carried ready (omega (arith, ready .query .few-rules)) (l .loop .inv .1)
+    let ready = l .before .pre .1 in
+    going-carried ready (omega (arith, l .before .pre .0)) (l .loop .inv .1)
 
 pub carry-spec : {M : Type 1} → statement M
 carry-spec =

@@ -7,22 +7,22 @@ use Rattle.engine.proofs.climb.climb.Statement.{statement}
 use Rattle.engine.proofs.climb.climb.Tie as tie
 
 abbrev Inv-loop : tie.InvT-loop
-Inv-loop source target offset delay order m n p₀ q₀ p q = Rising (shape source target offset m) (delayAt delay) p q
+Inv-loop source target offset delay order m n p₀ q₀ par₀ p q par = Rising (shape source target offset m) (delayAt delay) p q
 
 abbrev μ-loop : tie.MeasureT-loop
-μ-loop source target offset delay order m n p₀ q₀ p q = left p q
+μ-loop source target offset delay order m n p₀ q₀ par₀ p q par = left p q
 
 start-requires : tie.Need-start-requires Inv-loop μ-loop
 start-requires c κs = (c .pre .0, c .pre .1)
 
 quotient-requires : tie.Need-quotient-requires Inv-loop μ-loop
 quotient-requires c κs =
-    let f = c .before in
+    let f = c .before .before .before in
     walk-turns (f .before .pre .2) (f .before .pre .0 .few-transitions) (f .start .ensures .walk (c .if1 .taken))
 
 loop-holds : tie.Need-loop-holds Inv-loop μ-loop
 loop-holds c =
-    let f = c .before in
+    let f = c .before .before .before in
     ⊎-elim
     (λ w. rw (w .2, w .3) (rising-walk (f .before .pre .2) (f .before .pre .0 .few-transitions) (f .start .ensures .walk (w .0 .taken)) (w .1 .ensures)))
     (λ w. rw (w .1, w .2) rising-start)
@@ -30,35 +30,36 @@ loop-holds c =
 
 settle-requires : tie.Need-settle-requires Inv-loop μ-loop
 settle-requires c κs =
-    let s = c .before .before .before in
-    rising-query (s .args .delay .now) (s .pre .0) (s .pre .1) (c .loop .inv)
+    let l = c .before in
+    let s = l .before .before .before .before .before in
+    rising-query (s .args .delay .now) (s .pre .0) (s .pre .1) (l .loop .inv)
 
 quotient-requires-2 : tie.Need-quotient-requires-2 Inv-loop μ-loop
 quotient-requires-2 c κs =
     let e = c .before .before in
-    let s = e .before .before .before .before in
+    let s = e .before .before .before .before .before .before .before in
     walk-turns (s .pre .2) (s .pre .0 .few-transitions) (e .settle .ensures .0 .walk (c .if2 .taken))
 
 loop-less : tie.Need-loop-less Inv-loop μ-loop
 loop-less c =
-    let t = c .before in
+    let t = c .before .before in
     let e = t .before .before in
-    let s = e .before .before .before .before in
+    let s = e .before .before .before .before .before .before .before in
     let end = e .settle .ensures .0 in
-    rising-less (s .pre .2) (s .pre .0 .few-transitions) (end .walk (t .if2 .taken)) (c .quotient2 .ensures) (e .before .loop .inv) (end .above (t .if2 .taken))
+    rising-less (s .pre .2) (s .pre .0 .few-transitions) (end .walk (t .if2 .taken)) (c .before .quotient2 .ensures) (e .before .before .loop .inv) (end .above (t .if2 .taken))
 
 loop-again : tie.Need-loop-again Inv-loop μ-loop
 loop-again c =
-    let t = c .before in
+    let t = c .before .before in
     let e = t .before .before in
-    let s = e .before .before .before .before in
-    rising-walk (s .pre .2) (s .pre .0 .few-transitions) (e .settle .ensures .0 .walk (t .if2 .taken)) (c .quotient2 .ensures)
+    let s = e .before .before .before .before .before .before .before in
+    rising-walk (s .pre .2) (s .pre .0 .few-transitions) (e .settle .ensures .0 .walk (t .if2 .taken)) (c .before .quotient2 .ensures)
 
 returns : tie.Need-returns Inv-loop μ-loop
 returns c =
     let e = c .before .before .before in
-    let l = e .before in
-    let s = e .before .before .before .before in
+    let l = e .before .before in
+    let s = e .before .before .before .before .before .before .before in
     rising-end (l .loop .inv) (e .settle .ensures .0) (rising-query (s .args .delay .now) (s .pre .0) (s .pre .1) (l .loop .inv)) (e .settle .ensures .1) (c .before .if2 .left)
 
 pub climb-spec : {M : Type 1} → statement M
