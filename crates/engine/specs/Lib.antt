@@ -5,6 +5,7 @@ pub mod Climbing
 pub mod Sum
 pub mod Listed
 pub mod Peel
+pub mod Peeling
 pub mod Near
 pub mod Found
 pub mod Lay

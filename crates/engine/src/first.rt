@@ -8,9 +8,10 @@ ghost use lib.ListN.{getD, take};
 ghost use Rattle.theory.specs.Schedule.{TightRule};
 ghost use Rattle.engine.specs.Columns.{shape, delayAt, Limits, Short};
 ghost use Rattle.engine.specs.Listed.{Listed, Gathered, plain, Within};
-ghost use Rattle.engine.specs.Peel.{Marked, Struck, Stays};
+ghost use Rattle.engine.specs.Peel.{Stays};
 ghost use Rattle.engine.specs.Near.{awayFrom, Near, Settled, Nearer, Swept, turnOf, Ways, followed};
 ghost use Rattle.engine.specs.Found.{numbers, Ready, FoundIn, FoundFirst};
+use crate::peel;
 
 // The rules of a kind, by number, lowest first.
 struct Kind {
@@ -134,73 +135,6 @@ fn gather(column: &[u16; 2048], list: &[u16; 2048], len: usize) -> [u16; 2048]
         j += 1;
     }
     picked
-}
-
-// The transitions at the `to` end of a rule whose `from` end remains.
-fn reached(from: &[u16; 2048], to: &[u16; 2048], len: usize, alive: &[u8; 256]) -> [u8; 256]
-    requires { ⌜ Within (now from) (now to) len ⌝ }
-    ensures { λ r. ⌜ Marked (now (from .entry)) (now (to .entry)) len (now (alive .entry)) r ⌝ }
-{
-    let mut marks = [0u8; 256];
-    let mut j = 0;
-    while j < len {
-        let u = wide(from[j]);
-        let w = wide(to[j]);
-        if alive[u] == 1 {
-            marks[w] = 1;
-        }
-        j += 1;
-    }
-    marks
-}
-
-// A transition that remains, and that no remaining rule enters, or none leaves.
-fn loose(alive: u8, entered: u8, left: u8) -> bool
-    ensures { λ r. ⌜ (r ≡ true → (0 < alive) × ((entered ≡ 0) ⊎ (left ≡ 0))) ⌝ }
-{
-    if alive == 0 {
-        return false;
-    }
-    if entered == 0 {
-        return true;
-    }
-    if left == 0 {
-        return true;
-    }
-    false
-}
-
-// Strikes out each transition that no remaining rule enters, or none leaves. Tells whether one was struck.
-fn strike(n: usize, entered: &[u8; 256], left: &[u8; 256], alive: &mut [u8; 256]) -> bool
-    requires { ⌜ n ≤ 256 ⌝ }
-    ensures { λ r. ⌜ Struck (now (entered .entry)) (now (left .entry)) (now (alive .entry)) (now (alive .exit)) r ⌝ }
-{
-    let mut struck = false;
-    let mut v = 0;
-    while v < n {
-        if loose(alive[v], entered[v], left[v]) {
-            alive[v] = 0;
-            struck = true;
-        }
-        v += 1;
-    }
-    struck
-}
-
-// Strikes until nothing more can be struck. Every transition on a loop remains.
-fn peel(source: &[u16; 2048], target: &[u16; 2048], len: usize, n: usize) -> [u8; 256]
-    requires { ⌜ Within (now source) (now target) len ⌝ }
-    requires { ⌜ n ≤ 256 ⌝ }
-    ensures { λ r. ⌜ Stays (plain (now (source .entry)) (now (target .entry)) len) r ⌝ }
-{
-    let mut alive = [1u8; 256];
-    let mut struck = true;
-    while struck {
-        let entered = reached(source, target, len, &alive);
-        let left = reached(target, source, len, &alive);
-        struck = strike(n, &entered, &left, &mut alive);
-    }
-    alive
 }
 
 // How far t is from v, where d is the least number of rules, 1 or more, from t to v.
@@ -328,18 +262,20 @@ fn route(
     rules
 }
 
-// The first loop of the rules from source[j] to target[j], j below len; rule j goes by the number list[j].
-fn first_loop(
+// The first loop of the rules from source[j] to target[j], j below len; rule j goes by the number list[j]. It is read from the lowest transition truly on
+// one: a transition may remain though it is on none, between two loops.
+fn seek_loop(
     source: &[u16; 2048],
     target: &[u16; 2048],
     list: &[u16; 2048],
     len: usize,
     n: usize,
+    alive: &[u8; 256],
 ) -> Found
     requires { ⌜ Limits (now source) (now target) [] len n ⌝ }
+    requires { ⌜ Stays (plain (now source) (now target) len) (now alive) ⌝ }
     ensures { λ r. ⌜ FoundIn (plain (now (source .entry)) (now (target .entry)) len) (now (list .entry)) n (r .len) (r .at) (r .rules) ⌝ }
 {
-    let alive = peel(source, target, len, n);
     let mut at = 0;
     while at < n {
         if alive[at] == 1 {
@@ -356,6 +292,29 @@ fn first_loop(
             }
         }
         at += 1;
+    }
+    Found {
+        len: 0,
+        at: 0,
+        rules: [0u16; 256],
+    }
+}
+
+// The first loop of those rules. There is one exactly when peeling leaves a remnant; only then is its place sought.
+fn first_loop(
+    source: &[u16; 2048],
+    target: &[u16; 2048],
+    list: &[u16; 2048],
+    len: usize,
+    n: usize,
+) -> Found
+    requires { ⌜ Limits (now source) (now target) [] len n ⌝ }
+    ensures { λ r. ⌜ FoundIn (plain (now (source .entry)) (now (target .entry)) len) (now (list .entry)) n (r .len) (r .at) (r .rules) ⌝ }
+{
+    let peeled = peel::peel(source, target, len, n);
+    if peeled.count < n {
+        let alive = peeled.alive;
+        return seek_loop(source, target, list, len, n, &alive);
     }
     Found {
         len: 0,

@@ -3,6 +3,7 @@ mod climb;
 mod columns;
 mod first;
 mod laps;
+mod peel;
 mod scan;
 
 ghost use Rattle.engine.specs.Lap.{LapOf};
