@@ -2,7 +2,6 @@
 -- waits to be struck. S is the shape, n the number of transitions.
 --
 --   Tally P k c                == c is the number of those below k of which P holds
---   Linked column len head next   == the rules at each transition in a list, the last first: head v and next r hold 1 more than a rule, or 0
 --   Enters S alive v p w r     == rule r enters w, and counts: both its ends remain, or it leaves v, just struck, and is below p
 --   Tallied S alive v p k entering   == entering holds, of each transition, how many of the rules below k enter it and count
 --   Waiting n alive entering order done k   == the places done to k of order hold the transitions below n that remain and that no rule enters
@@ -24,7 +23,8 @@ use Rattle.model.specs.Shape.{Shape, Fits}
 use Rattle.theory.specs.Relax.{zeros-at}
 use Rattle.engine.specs.Columns.{Limits}
 use Rattle.engine.specs.Listed.{plain}
-use Rattle.engine.specs.Sum.{sum, sum-but, total, total-set, inside}
+use Rattle.engine.specs.Sum.{sum, sum-but, sign, sign-some, sign-none, sign-most, total, total-set, inside}
+use Rattle.engine.specs.Linked.{Linked, Points, points-first, points-last, points-rule, points-next, points-all, Row, row-set}
 use Rattle.engine.specs.Peel.{Remains, Entered, Left, Loose, StruckOut, Remnant}
 
 -- --------------------------------------------------------------------------------------------------------------------------------- counts
@@ -76,75 +76,6 @@ pub tally-some : (P : ℕ → Type 0) (k c : ℕ) → Tally P k c → 0 < c → 
 tally-some P zero c t l = absurd (omega (arith, t))
 tally-some P (suc k) c t l =
     ⊎-elim (λ s. (k, omega arith, s .0)) (λ s. let h = tally-some P k c (s .1) l in (h .0, omega (arith, h .1), h .2)) t
-
--- --------------------------------------------------------------------------------------------------------------------------------- links
-
--- the rules below len at each transition, linked from the last to the first
-pub record Linked (column : List ℕ) (len : ℕ) (head next : List ℕ) : Type 0 where
-  pub heads : length head ≡ 256
-  pub nexts : length next ≡ 2048
-  pub last : (r : ℕ) → r < len → r < getD head (getD column r 0) 0
-  pub at : (v p : ℕ) → getD head v 0 ≡ suc p → (p < len) × (getD column p 0 ≡ v)
-  pub before : (r q : ℕ) → r < len → q < r → getD column q 0 ≡ getD column r 0 → q < getD next r 0
-  pub on : (r p : ℕ) → r < len → getD next r 0 ≡ suc p → (p < r) × (getD column p 0 ≡ getD column r 0)
-
-pub linked-none : (column : List ℕ) → Linked column 0 (replicate 256 0) (replicate 2048 0)
-linked-none column =
-    record {
-      heads = length-replicate {A = ℕ} 256 0;
-      nexts = length-replicate {A = ℕ} 2048 0;
-      last = λ r l. absurd (omega arith);
-      at = λ v p e. absurd (omega (arith, e, zeros-at 256 v));
-      before = λ r q l. absurd (omega arith);
-      on = λ r p l. absurd (omega arith);
-    }
-
-module _ (column : List ℕ) (j : ℕ) (head next : List ℕ) (h : Linked column j head next) (room : j < 2048) (v x y : ℕ) (ev : v ≡ getD column j 0) (low : v < 256)
-    (ex : x ≡ getD head v 0) (ey : y ≡ j + 1) where
-  new-head : getD (set head v y) v 0 ≡ y
-  new-head = getD-set-same head v y 0 (omega (arith, h .heads))
-
-  new-next : getD (set next j x) j 0 ≡ x
-  new-next = getD-set-same next j x 0 (omega (arith, h .nexts))
-
-  -- one rule more
-  pub linked-add : Linked column (j + 1) (set head v y) (set next j x)
-  linked-add =
-      record {
-        heads = simp length-set (h .heads);
-        nexts = simp length-set (h .nexts);
-        last = last;
-        at = λ w p. by-cases (ℕ-discrete w v)
-            (λ e f. let s : p ≡ j = omega (arith, new-head, ap (λ z. getD (set head v y) z 0) e) in (omega arith, rw s (sym ev ∙ sym e)))
-            (λ d f. let o = h .at w p (sym (getD-set-other head v w y 0 d) ∙ f) in (omega (arith, o .0), o .1));
-        before = before;
-        on = on;
-      }
-    where
-      last : (r : ℕ) → r < j + 1 → r < getD (set head v y) (getD column r 0) 0
-      last r l =
-          by-cases (ℕ-discrete (getD column r 0) v)
-          (λ e. rw (e, new-head) (omega arith))
-          (λ d. rw (getD-set-other head v (getD column r 0) y 0 d) (h .last r (earlier d)))
-        where
-          earlier : getD column r 0 ≢ v → r < j
-          earlier d = by-cases (ℕ-discrete r j) (λ e. absurd (d (ap (λ z. getD column z 0) e ∙ sym ev))) (λ n. omega arith)
-
-      before : (r q : ℕ) → r < j + 1 → q < r → getD column q 0 ≡ getD column r 0 → q < getD (set next j x) r 0
-      before r q l b e =
-          by-cases (ℕ-discrete r j)
-          (λ s. let c : getD column q 0 ≡ v = e ∙ ap (λ z. getD column z 0) s ∙ sym ev in rw (s, new-next) (omega (arith, h .last q (omega arith), ap (λ z. getD head z 0) c)))
-          (λ d. rw (getD-set-other next j r x 0 d) (h .before r q (omega arith) b e))
-
-      on : (r p : ℕ) → r < j + 1 → getD (set next j x) r 0 ≡ suc p → (p < r) × (getD column p 0 ≡ getD column r 0)
-      on r p l e =
-          by-cases (ℕ-discrete r j)
-          (λ s. let o = h .at v p (sym ex ∙ sym new-next ∙ (rw s at e)) in (omega (arith, o .0), o .1 ∙ ev ∙ ap (λ z. getD column z 0) (sym s)))
-          (λ d. h .on r p (omega arith) (sym (getD-set-other next j r x 0 d) ∙ e))
-
--- p is 0, or 1 more than a rule at v
-abbrev pub Points : List ℕ → ℕ → ℕ → ℕ → Type 0
-Points column len v p = (r : ℕ) → p ≡ suc r → (r < len) × (getD column r 0 ≡ v)
 
 -- ---------------------------------------------------------------------------------------------------------------------- counts of rules
 
@@ -244,22 +175,6 @@ module _ (S : Shape) (alive : List ℕ) (v r p : ℕ) (entering : List ℕ) (h :
 
 -- --------------------------------------------------------------------------------------------------------------------------- those that wait
 
--- 1 where x is above 0
-abbrev pub sign : ℕ → ℕ
-sign zero = 0
-sign (suc x) = 1
-
-sign-some : (x : ℕ) → 0 < x → sign x ≡ 1
-sign-some zero l = absurd (omega arith)
-sign-some (suc x) l = refl
-
-sign-most : (x : ℕ) → sign x ≤ 1
-sign-most zero = omega arith
-sign-most (suc x) = omega arith
-
-sign-none : (x : ℕ) → x ≡ 0 → sign x ≡ 0
-sign-none x e = rw e refl
-
 -- how many of the transitions below n a remaining rule enters
 abbrev pub entries : ℕ → List ℕ → ℕ
 entries n entering = sum n (λ w. sign (getD entering w 0))
@@ -272,23 +187,6 @@ pub record Waiting (n : ℕ) (alive entering order : List ℕ) (done k : ℕ) : 
   pub remain : (i : ℕ) → done ≤ i → i < k → getD alive (getD order i 0) 0 ≡ 1
   pub apart : (i j : ℕ) → i < j → j < k → getD order i 0 ≢ getD order j 0
   pub few : k + entries n entering ≤ n
-
--- order has 256 places, all below n
-pub record Row (n : ℕ) (order : List ℕ) : Type 0 where
-  pub room : length order ≡ 256
-  pub low : (i : ℕ) → getD order i 0 < n
-
-pub row-none : (n : ℕ) → 1 ≤ n → Row n (replicate 256 0)
-row-none n l = record { room = length-replicate {A = ℕ} 256 0; low = λ i. omega (arith, zeros-at 256 i) }
-
-pub row-set : (n : ℕ) (order : List ℕ) (k w : ℕ) → Row n order → k < 256 → w < n → Row n (set order k w)
-row-set n order k w h l b =
-    record {
-      room = simp length-set (h .room);
-      low = λ i. by-cases (ℕ-discrete i k)
-          (λ e. rw (e, getD-set-same order k w 0 (omega (arith, h .room))) b)
-          (λ d. rw (getD-set-other order k i w 0 d) (h .low i));
-    }
 
 pub waiting-none : (alive entering order : List ℕ) → Waiting 0 alive entering order 0 0
 unfolding sum
@@ -498,13 +396,13 @@ module _ (from to : List ℕ) (len n : ℕ) (limits : Limits from to [] len n) (
   spread-starts alive entering order done k v p h l ev ep = (
     record {
       tallied = tallied-struck (plain from to len) alive v p entering (h .tallied) here (ap (λ z. getD entering z 0) ev ∙ h .waiting .empty done l)
-          (λ r b e. omega (arith, linked .last r b, ap (λ z. getD head z 0) e));
+          (λ r b e. omega (arith, ep, points-last from len head next linked v r b e));
       waiting = waiting-struck n alive entering order done k v (h .waiting) l ev;
       row = h .row;
       behind = omega arith;
     },
     getD-set-same alive v 0 0 (inside alive v (omega (arith, here))),
-    λ r e. linked .at v r (sym ep ∙ e),
+    rw ep (points-first from len head next linked v),
   )
     where
       here : getD alive v 0 ≡ 1
@@ -517,7 +415,7 @@ module _ (from to : List ℕ) (len n : ℕ) (limits : Limits from to [] len n) (
     r = left - 1
 
     at : (r < len) × (getD from r 0 ≡ v)
-    at = points r (omega arith)
+    at = points-rule from len head next linked v left points more
 
     -- it is a rule, and its target is a transition
     pub spread-inside : (r < 2048) × (getD to r 0 < 256)
@@ -527,22 +425,18 @@ module _ (from to : List ℕ) (len n : ℕ) (limits : Limits from to [] len n) (
     tallied′ = let e : suc r ≡ left = omega arith in rw e (h .tallied)
 
     module _ (w p : ℕ) (ew : w ≡ getD to r 0) (ep : p ≡ getD next r 0) where
-      falls : p ≤ r
-      falls = below (getD next r 0) refl
-        where
-          below : (x : ℕ) → x ≡ getD next r 0 → p ≤ r
-          below zero e = omega (arith, e, ep)
-          below (suc x) e = omega (arith, e, ep, linked .on r x (at .0) (sym e) .0)
-
-      later : (q : ℕ) → q < r → getD from q 0 ≡ v → q < p
-      later q l e = omega (arith, ep, linked .before r q (at .0) l (e ∙ sym (at .1)))
+      on : (p ≤ r) × Points from len v p
+      on = points-next from len head next linked v left points more p ep
 
       -- the next rule
       pub spread-points : (p < left) × Points from len v p
-      spread-points = (omega (arith, falls), λ q e. let t = linked .on r q (at .0) (sym ep ∙ e) in (omega (arith, t .0, at .0), t .1 ∙ at .1))
+      spread-points = (omega (arith, on), on .1)
+
+      later : (q : ℕ) → q < r → getD from q 0 ≡ v → q < p
+      later = points-all from len head next linked v left points more p ep
 
       less : getD alive w 0 ≡ 1 → (0 < getD entering w 0) × Tallied (plain from to len) alive v p len (set entering w (getD entering w 0 - 1))
-      less = tallied-less (plain from to len) alive v r p entering tallied′ struck (at .0) (at .1) falls later w ew
+      less = tallied-less (plain from to len) alive v r p entering tallied′ struck (at .0) (at .1) (on .0) later w ew
 
       low : w < n
       low = omega (arith, ew, limits .fits r (at .0))
@@ -556,7 +450,7 @@ module _ (from to : List ℕ) (len n : ℕ) (limits : Limits from to [] len n) (
       pub spread-past : getD alive w 0 ≢ 1 → Spread (plain from to len) n v p alive entering order done k
       spread-past d =
           record {
-            tallied = tallied-past (plain from to len) alive v r p entering tallied′ struck (at .0) (at .1) falls later (rw ew at d);
+            tallied = tallied-past (plain from to len) alive v r p entering tallied′ struck (at .0) (at .1) (on .0) later (rw ew at d);
             waiting = h .waiting;
             row = h .row;
             behind = h .behind;

@@ -1,11 +1,8 @@
--- 256 numbers that only fall: the measure of the loops that lower them one by one.
+-- Sums over the numbers below k.
 --
---   sum k f           == the sum of f over the numbers below k; sum-same, sum-but: equal functions, and two that agree but at one number
+--   sum k f           == the sum of f over the numbers below k; sum-same, sum-but: equal functions, and two that agree but at one number; sum-most
+--   sign x            == 1 where x is above 0; sign-some, sign-none, sign-most
 --   total k xs        == the sum of the first k numbers of a list; total-set: one of them replaced
---   Fell xs ys f      == one of the numbers xs fell, and the result is ys (f); or nothing changed
---   fell-none, fell-set   nothing done; one more number lowered
---   oneIf f           == 1 where f is true, else 0
---   fell-less         the sum, and 1 while there may be more to do, falls
 use mathlib.Core.Path.{_≡_, refl, ap}
 use mathlib.Core.Logic.{by-cases, _≢_}
 use mathlib.Core.Bool.{Bool, true, false}
@@ -36,6 +33,27 @@ sum-but (suc k) f g j b h =
     (λ e. rw e (omega (arith, sum-same j f g (λ i l. h i (λ s. omega arith)))))
     (λ d. omega (arith, h k d, sum-but k f g j (omega arith) h))
 
+pub sum-most : (k : ℕ) (f : ℕ → ℕ) → ((i : ℕ) → f i ≤ 1) → sum k f ≤ k
+unfolding sum
+sum-most zero f h = omega arith
+sum-most (suc k) f h = omega (arith, h k, sum-most k f h)
+
+-- 1 where x is above 0
+abbrev pub sign : ℕ → ℕ
+sign zero = 0
+sign (suc x) = 1
+
+pub sign-some : (x : ℕ) → 0 < x → sign x ≡ 1
+sign-some zero l = absurd (omega arith)
+sign-some (suc x) l = refl
+
+pub sign-most : (x : ℕ) → sign x ≤ 1
+sign-most zero = omega arith
+sign-most (suc x) = omega arith
+
+pub sign-none : (x : ℕ) → x ≡ 0 → sign x ≡ 0
+sign-none x e = rw e refl
+
 -- the sum of the first k numbers of a list
 abbrev pub total : ℕ → List ℕ → ℕ
 total k xs = sum k (λ i. getD xs i 0)
@@ -52,24 +70,3 @@ total-set k xs i x b l =
 -- no flag is both
 pub not-both : (f : Bool) → f ≡ true → f ≡ false → ⊥
 not-both f a b = let z : _≡_ {A = ℕ} 0 1 = cc in omega arith
-
--- one of the numbers xs fell, and they are ys now (f); or nothing changed
-pub record Fell (xs ys : List ℕ) (f : Bool) : Type 0 where
-  pub lower : f ≡ true → total 256 ys < total 256 xs
-  pub kept : f ≡ false → ys ≡ xs
-
-pub fell-none : (xs : List ℕ) → Fell xs xs false
-fell-none xs = record { lower = λ t. absurd (not-both false t refl); kept = λ t. refl }
-
--- 1 where f is true, else 0
-abbrev pub oneIf : Bool → ℕ
-oneIf true = 1
-oneIf false = 0
-
-pub fell-less : (xs ys : List ℕ) (f : Bool) → Fell xs ys f → total 256 ys + oneIf f < total 256 xs + 1
-fell-less xs ys true h = omega (arith, h .lower refl)
-fell-less xs ys false h = omega (arith, ap (total 256) (h .kept refl))
-
-pub fell-set : (xs ys : List ℕ) (f : Bool) (i y : ℕ) → Fell xs ys f → i < 256 → y < getD ys i 0 → Fell xs (set ys i y) true
-fell-set xs ys f i y h b l =
-    record { lower = λ t. omega (arith, total-set 256 ys i y b (omega arith), fell-less xs ys f h); kept = λ t. absurd (not-both true refl t) }

@@ -7,7 +7,8 @@ ghost use Prim.Native.Nat.{ℕ, _≤_, _<_};
 ghost use lib.ListN.{getD, replicate};
 ghost use Rattle.engine.specs.Columns.{Limits};
 ghost use Rattle.engine.specs.Listed.{plain};
-ghost use Rattle.engine.specs.Peeling.{Linked, Tallied, Waiting, Row, Lessened, Spread, StruckNext, Stripped, Peeled};
+ghost use Rattle.engine.specs.Linked.{Linked, Row};
+ghost use Rattle.engine.specs.Peeling.{Tallied, Waiting, Lessened, Spread, StruckNext, Stripped, Peeled};
 
 // The transitions that remain (1) and those struck (0), and how many were struck. `order` holds those struck because no remaining rule entered them,
 // first to last: every rule between two of them comes source first.

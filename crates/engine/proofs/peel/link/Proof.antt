@@ -2,7 +2,7 @@
 -- The loop's invariant: the rules passed are linked. The measure is the number of rules left.
 -- Assumes nothing.
 use Prim.Native.Nat.{_-_, _≤_}
-use Rattle.engine.specs.Peeling.{Linked, linked-none, linked-add}
+use Rattle.engine.specs.Linked.{Linked, linked-none, linked-add}
 use mathlib.Core.Path.{_≡_, refl}
 use native.Mathlib.Omega.{arith}
 use Rattle.engine.proofs.peel.link.Statement.{statement}

@@ -4,7 +4,8 @@
 use Prim.Native.Nat.{_-_, _≤_, _<_}
 use mathlib.Core.Path.{_≡_}
 use mathlib.Core.Logic.{⊎-elim}
-use Rattle.engine.specs.Peeling.{Waiting, Row, waiting-none, waiting-skip, waiting-push, row-set}
+use Rattle.engine.specs.Linked.{Row, row-set}
+use Rattle.engine.specs.Peeling.{Waiting, waiting-none, waiting-skip, waiting-push}
 use native.Mathlib.Omega.{arith}
 use Rattle.engine.proofs.peel.list_unentered.Statement.{statement}
 use Rattle.engine.proofs.peel.list_unentered.Tie as tie

@@ -1,7 +1,8 @@
 -- `engine::peel::peel` meets its contract: the remnant, after those that no remaining rule enters and those that none leaves.
 -- Assumes nothing.
 use Rattle.engine.specs.Listed.{limits-back}
-use Rattle.engine.specs.Peeling.{row-none, peeled-once, peeled-twice}
+use Rattle.engine.specs.Linked.{row-none}
+use Rattle.engine.specs.Peeling.{peeled-once, peeled-twice}
 use native.Mathlib.Omega.{arith}
 use Rattle.engine.proofs.peel.peel.Statement.{statement}
 use Rattle.engine.proofs.peel.peel.Tie as tie

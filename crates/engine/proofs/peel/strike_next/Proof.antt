@@ -6,7 +6,8 @@ use mathlib.Core.Path.{_≡_, refl}
 use mathlib.Core.Logic.{⊎-elim}
 use lib.ListN.{getD}
 use Rattle.engine.specs.Listed.{plain}
-use Rattle.engine.specs.Peeling.{Spread, Points, spread-starts, spread-inside, spread-points, spread-ready, spread-less, spread-past, spread-ends}
+use Rattle.engine.specs.Linked.{Points}
+use Rattle.engine.specs.Peeling.{Spread, spread-starts, spread-inside, spread-points, spread-ready, spread-less, spread-past, spread-ends}
 use native.Mathlib.Omega.{arith}
 use Rattle.engine.proofs.peel.strike_next.Statement.{statement}
 use Rattle.engine.proofs.peel.strike_next.Tie as tie
