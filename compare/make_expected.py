@@ -79,6 +79,9 @@ TABLES = [
     ("both", "lowest transition on a loop of offset 0", "refused 5 at 2"),
     ("both", "the same by rate", "refused 5 at 2"),
     ("both", "the same by simulation", "refused 5 at 2"),
+    ("both", "a bridge between two loops of offset 0", "refused 5 at 1"),
+    ("both", "the bridge by simulation", "refused 5 at 1"),
+    ("both", "only leads to a loop of offset 0", "refused 5 at 2"),
     ("both", "lowest unknown rule", "refused 7 at 1"),
     # X(1) >= X(0) + 2*3, X(0) >= X(1) + 2*4 - 2*7.
     ("both", "7/2 beside 3/1", "period 7/2 exact, low 1 2, high 1 2, schedule 2 0 6"),

@@ -28,7 +28,8 @@ use Rattle.theory.specs.Near.{Any, picked-none, picked-first, closed-first}
 use Rattle.engine.specs.Columns.{shape, Limits}
 use Rattle.engine.specs.Listed.{Listed, Gathered, plain, picks, limits-within}
 use Rattle.engine.specs.Near.{Near, Settled, Ways, near-least, near-short, followed, followed-first, Steps}
-use Rattle.engine.specs.Peel.{Stays}
+use Rattle.engine.specs.Peel.{Stays, loop-remnant}
+use Rattle.engine.specs.Peeling.{Peeled, peeled-none}
 
 -- the first loop of the kind A has len rules, those that stand first, and is read from at; there is none where len is 0
 pub record FoundFirst (S : Shape) (A : ℕ → Type 0) (n len at : ℕ) (rules : List ℕ) : Type 0 where
@@ -143,6 +144,19 @@ found-none source target list len n v rules limits below l =
       short = omega arith;
       at-below = limits .some-transition;
       none = λ e u js h. below u js (omega (arith, loop-start (plain source target len) n (limits .fits) u js h)) h;
+      some = λ z. absurd (omega arith);
+    }
+
+-- nothing remains: there is no loop
+pub found-peeled : (source target list : List ℕ) (len n : ℕ) (alive order : List ℕ) (k : ℕ) (rules : List ℕ) → Limits source target [] len n
+    → Peeled (plain source target len) n alive order k → n ≤ k → FoundIn (plain source target len) list n 0 0 rules
+found-peeled source target list len n alive order k rules limits p l =
+    record {
+      short = omega arith;
+      at-below = limits .some-transition;
+      none = λ e u js h.
+          let v = loop-start (plain source target len) n (limits .fits) u js h in
+          peeled-none (plain source target len) n alive order k p l u v (loop-remnant (plain source target len) n (limits .fits) (limits .few-transitions) alive (p .remnant) u js h);
       some = λ z. absurd (omega arith);
     }
 

@@ -6,8 +6,11 @@ pub mod Above
 pub mod Order
 pub mod Sum
 pub mod Listed
+pub mod Linked
 pub mod Peel
+pub mod Peeling
 pub mod Near
+pub mod Queue
 pub mod Found
 pub mod Lay
 pub mod Verdict

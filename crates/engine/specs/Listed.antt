@@ -8,7 +8,7 @@
 --   plain source target len        == the shape that two columns say, whose offsets nobody asks for
 --   picks                          gathered columns say the shape of the listed rules
 --   Within from to len             == the two ends of every rule are below 256
---   limits-picked, limits-within, within-back, limits-most   what the limits of the whole list give
+--   limits-picked, limits-within, limits-back, limits-most   what the limits of the whole list give
 use mathlib.Core.Path.{_≡_, sym, _∙_}
 use mathlib.Core.Logic.{by-cases}
 use mathlib.Core.List.{List, []}
@@ -114,8 +114,15 @@ limits-within from to len n l =
       to-below = λ j b. omega (arith, l .fits j b, l .few-transitions);
     }
 
-pub within-back : (from to : List ℕ) (len : ℕ) → Within from to len → Within to from len
-within-back from to len w = record { few = w .few; from-below = w .to-below; to-below = w .from-below }
+pub limits-back : (from to : List ℕ) (len n : ℕ) → Limits from to [] len n → Limits to from [] len n
+limits-back from to len n l =
+    record {
+      few-rules = l .few-rules;
+      some-transition = l .some-transition;
+      few-transitions = l .few-transitions;
+      fits = λ r b. let f = l .fits r b in (f .1, f .0);
+      small-offsets = λ r b. omega arith;
+    }
 
 -- the limits with the highest number of transitions
 pub limits-most : (source target offset : List ℕ) (m n : ℕ) → Limits source target offset m n → Limits source target offset m 256

@@ -5,9 +5,7 @@
 --   Near S v d                  == every distance of d is that of a walk
 --   Calm S v d r, Settled S v d == rule r shows no shorter walk from its source; no rule does
 --   near-least, near-short      then no walk is shorter than d says, and a closed one has at most n rules
---   Nearer, Sweeping, Swept     == what one rule, the first rules and a sweep over all of them do
---   turnOf down len i           == the rule at turn i, when the rules are gone through up or down
---   sweep-starts, sweep-turn, sweep-ends   the loop over the rules
+--   near-none, near-put         at first no walk is known; a distance put down
 --   Leads S v d r               == rule r comes one nearer to v
 --   Chosen, Ways S v d j next   == next holds, of the rules from j on, the lowest such rule from each transition
 --   ways-none, ways-passed, ways-led       the loop that makes it
@@ -15,7 +13,6 @@
 --   followed-first              those are the first shortest walk
 use mathlib.Core.Path.{_≡_, refl, sym, ap, _∙_, subst}
 use mathlib.Core.Logic.{by-cases, ite, if-pos, if-neg, _≢_}
-use mathlib.Core.Bool.{Bool, true, false}
 use mathlib.Core.List.{List, [], _∷_}
 use Prim.Native.Nat.{ℕ, zero, suc, _+_, _-_, _≤_, _<_}
 use native.Mathlib.Omega.{arith}
@@ -26,7 +23,6 @@ use Rattle.model.specs.Shape.{Shape, Fits}
 use Rattle.model.specs.Walk.{Walk}
 use Rattle.theory.specs.Near.{FirstWalk, walk-first, closed-short}
 use Rattle.engine.specs.Listed.{plain, Within}
-use Rattle.engine.specs.Sum.{inside, not-both, Fell, fell-none, fell-set}
 
 -- how far t is from v, where the least number of rules, 1 or more, from t to v is d
 unfoldable pub awayFrom : ℕ → ℕ → ℕ → ℕ
@@ -67,17 +63,6 @@ Calm S v d r = getD d (S.source r) 0 ≤ far v d (S.target r) + 1
 abbrev pub Settled : Shape → ℕ → List ℕ → Type 0
 Settled S v d = (r : ℕ) → r < S.rules → Calm S v d r
 
--- one rule from s to t looked at
-pub record Nearer (v s t : ℕ) (d₀ d : List ℕ) (f : Bool) : Type 0 where
-  pub kept : f ≡ false → (d ≡ d₀) × (getD d₀ s 0 ≤ far v d₀ t + 1)
-  pub moved : f ≡ true → (d ≡ set d₀ s (far v d₀ t + 1)) × (far v d₀ t + 1 < getD d₀ s 0)
-
-pub nearer-moved : (v s t : ℕ) (d : List ℕ) (x : ℕ) → x ≡ far v d t + 1 → x < getD d s 0 → Nearer v s t d (set d s x) true
-nearer-moved v s t d x e l = rw e record { kept = λ z. absurd (not-both true refl z); moved = λ z. (refl, rw e at l) }
-
-pub nearer-kept : (v s t : ℕ) (d : List ℕ) → getD d s 0 ≤ far v d t + 1 → Nearer v s t d d false
-nearer-kept v s t d l = record { kept = λ z. (refl, l); moved = λ z. absurd (not-both false z refl) }
-
 low-far : (k x : ℕ) → getD (replicate k 512) x 0 ≤ 512
 low-far zero x = omega arith
 low-far (suc k) zero = omega arith
@@ -95,94 +80,15 @@ module _ (S : Shape) (v : ℕ) (d : List ℕ) where
   near-least s x (r ∷ q ∷ qs) l h =
       omega (arith, s r (h .0), ap (λ y. getD d y 0) (h .1), away-most v (S.target r) (getD d (S.target r) 0), near-least s (S.target r) (q ∷ qs) (omega arith) (h .2))
 
-  module _ (near : Near S v d) (r : ℕ) (is-rule : r < S.rules) (from : S.source r < 256) (to : S.target r < 256) (less : far v d (S.target r) + 1 < getD d (S.source r) 0) where
-    -- a rule and then the walk from its target
-    way-over : Way S v (S.source r) (far v d (S.target r) + 1)
-    way-over =
-        by-cases (ℕ-discrete (S.target r) v)
-        (λ e. record { walk = r ∷ []; size = omega (arith, away-home v (S.target r) (getD d (S.target r) 0) e); some-rule = omega arith; walks = (is-rule, refl, e) })
-        (λ n.
-        let a = away-other v (S.target r) (getD d (S.target r) 0) n in
-        let w = near .attained (S.target r) to (omega (arith, near .low (S.source r))) in
-        record { walk = r ∷ w .walk; size = omega (arith, w .size); some-rule = omega arith; walks = (is-rule, refl, w .walks) })
-
-    abbrev next : List ℕ
-    next = set d (S.source r) (far v d (S.target r) + 1)
-
-    same : getD next (S.source r) 0 ≡ far v d (S.target r) + 1
-    same = getD-set-same d (S.source r) (far v d (S.target r) + 1) 0 (inside d (S.source r) (omega arith))
-
-    near-set : Near S v next
-    near-set =
-        record {
-          low = λ x. by-cases (ℕ-discrete x (S.source r))
-              (λ e. rw (e, same) (omega (arith, near .low (S.source r))))
-              (λ n. omega (arith, near .low x, getD-set-other d (S.source r) x (far v d (S.target r) + 1) 0 n));
-          attained = λ x b l. by-cases (ℕ-discrete x (S.source r))
-              (λ e. rw (e, same) way-over)
-              (λ n. let o = getD-set-other d (S.source r) x (far v d (S.target r) + 1) 0 n in rw o (near .attained x b (rw o at l)));
-        }
-
--- the rule at turn i, when len rules are gone through up or down
-abbrev pub turnOf : Bool → ℕ → ℕ → ℕ
-turnOf true len i = len - 1 - i
-turnOf false len i = i
-
-turn-all : (down : Bool) (len r : ℕ) → r < len → (k : ℕ) × (k < len) × (turnOf down len k ≡ r)
-turn-all true len r l = (len - 1 - r, omega arith, omega arith)
-turn-all false len r l = (r, l, refl)
-
--- after i turns of a sweep: a distance fell (f), or none of the rules looked at shows a shorter walk
-pub record Sweeping (S : Shape) (v : ℕ) (down : Bool) (i : ℕ) (d₀ d : List ℕ) (f : Bool) : Type 0 where
-  pub near : Near S v d
-  pub fell : Fell d₀ d f
-  pub calm : f ≡ false → (k : ℕ) → k < i → Calm S v d (turnOf down (S.rules) k)
-
--- after all of them
-pub record Swept (S : Shape) (v : ℕ) (d₀ d : List ℕ) (f : Bool) : Type 0 where
-  pub near : Near S v d
-  pub fell : Fell d₀ d f
-  pub settled : f ≡ false → Settled S v d
-
-module _ (S : Shape) (v : ℕ) (down : Bool) (d₀ : List ℕ) where
-  pub sweep-starts : Near S v d₀ → Sweeping S v down 0 d₀ d₀ false
-  sweep-starts n = record { near = n; fell = fell-none d₀; calm = λ t k l. absurd (omega arith) }
-
-  module _ (i : ℕ) (d e : List ℕ) (f : Bool) (h : Sweeping S v down i d₀ d f) (r : ℕ) where
-    sweep-moved : Nearer v (S.source r) (S.target r) d e true → r < S.rules → S.source r < 256 → S.target r < 256 → Sweeping S v down (i + 1) d₀ e true
-    sweep-moved n is-rule from to =
-        let m = n .moved refl in
-        rw (m .0)
-        record {
-          near = near-set S v d (h .near) r is-rule from to (m .1);
-          fell = fell-set d₀ d f (S.source r) (far v d (S.target r) + 1) (h .fell) from (m .1);
-          calm = λ t. absurd (not-both true refl t);
-        }
-
-    sweep-kept : r ≡ turnOf down (S.rules) i → Nearer v (S.source r) (S.target r) d e false → Sweeping S v down (i + 1) d₀ e f
-    sweep-kept turn n =
-        let k = n .kept refl in
-        rw (k .0)
-        record {
-          near = h .near;
-          fell = h .fell;
-          calm = λ t j l. by-cases (ℕ-discrete j i) (λ s. rw (s, ← turn) (k .1)) (λ s. h .calm t j (omega arith));
-        }
-
-  -- one turn of the loop
-  pub sweep-turn : (i : ℕ) (d e : List ℕ) (f g : Bool) → Sweeping S v down i d₀ d f → (j s t : ℕ) → j ≡ turnOf down (S.rules) i → j < S.rules → s ≡ S.source j → t ≡ S.target j
-      → s < 256 → t < 256 → Nearer v s t d e g → (g ≡ true → Sweeping S v down (i + 1) d₀ e true) × (g ≡ false → Sweeping S v down (i + 1) d₀ e f)
-  sweep-turn i d e f g h j s t turn is-rule es et from to n =
-      let m : Nearer v (S.source j) (S.target j) d e g = rw (← es, ← et) n in
-      (λ z. sweep-moved i d e f h j (rw z at m) is-rule (omega arith) (omega arith), λ z. sweep-kept i d e f h j turn (rw z at m))
-
-  pub sweep-ends : (i : ℕ) (d : List ℕ) (f : Bool) → Sweeping S v down i d₀ d f → S.rules ≤ i → Swept S v d₀ d f
-  sweep-ends i d f h l =
-      record {
-        near = h .near;
-        fell = h .fell;
-        settled = λ t r b. let k = turn-all down (S.rules) r b in subst (Calm S v d) (k .2) (h .calm t (k .0) (omega (arith, k .1)));
-      }
+-- a distance is put down
+pub near-put : (S : Shape) (v : ℕ) (d : List ℕ) (x k : ℕ) → Near S v d → x < length d → k ≤ 512 → Way S v x k → Near S v (set d x k)
+near-put S v d x k near room low way =
+    record {
+      low = λ y. by-cases (ℕ-discrete y x) (λ e. rw (e, getD-set-same d x k 0 room) low) (λ n. rw (getD-set-other d x y k 0 n) (near .low y));
+      attained = λ y b l. by-cases (ℕ-discrete y x)
+          (λ e. rw (e, getD-set-same d x k 0 room) way)
+          (λ n. let o = getD-set-other d x y k 0 n in rw o (near .attained y b (rw o at l)));
+    }
 
 -- a shortest closed walk is no longer than there are transitions
 pub near-short : (S : Shape) (n v : ℕ) (d : List ℕ) → Fits S n → Near S v d → Settled S v d → v < 256 → getD d v 0 < 512 → getD d v 0 ≤ n
@@ -245,7 +151,7 @@ module _ (S : Shape) (v : ℕ) (d : List ℕ) where
               later i a n = by-cases (ℕ-discrete i j) (λ e. absurd (n (ap (S.source) e))) (λ m. omega arith)
 
   -- one turn of the loop, which goes down: at turn i comes rule j, the last of those not looked at
-  module _ (i j s t : ℕ) (next : List ℕ) (h : Ways S v d (S.rules - i) next) (more : i < S.rules) (turn : j ≡ turnOf true (S.rules) i) (es : s ≡ S.source j) (et : t ≡ S.target j) where
+  module _ (i j s t : ℕ) (next : List ℕ) (h : Ways S v d (S.rules - i) next) (more : i < S.rules) (turn : j ≡ S.rules - 1 - i) (es : s ≡ S.source j) (et : t ≡ S.target j) where
     last : Ways S v d (suc j) next
     last = let e : suc j ≡ S.rules - i = omega arith in rw e h
 

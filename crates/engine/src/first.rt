@@ -3,14 +3,17 @@ ghost use mathlib.Core.Path.{_≡_};
 ghost use mathlib.Core.Logic.{_⊎_};
 ghost use mathlib.Core.Bool.{true, false};
 ghost use mathlib.Core.List.{[]};
-ghost use Prim.Native.Nat.{ℕ, _+_, _*_, _^_, _≤_, _<_};
+ghost use Prim.Native.Nat.{ℕ, _+_, _-_, _*_, _^_, _≤_, _<_};
 ghost use lib.ListN.{getD, take};
 ghost use Rattle.theory.specs.Schedule.{TightRule};
 ghost use Rattle.engine.specs.Columns.{shape, delayAt, Limits, Short};
 ghost use Rattle.engine.specs.Listed.{Listed, Gathered, plain, Within};
-ghost use Rattle.engine.specs.Peel.{Marked, Struck, Stays};
-ghost use Rattle.engine.specs.Near.{awayFrom, Near, Settled, Nearer, Swept, turnOf, Ways, followed};
+ghost use Rattle.engine.specs.Peel.{Stays};
+ghost use Rattle.engine.specs.Linked.{Linked};
+ghost use Rattle.engine.specs.Near.{awayFrom, Near, Settled, Ways, followed};
+ghost use Rattle.engine.specs.Queue.{Noted, Searching, Looking};
 ghost use Rattle.engine.specs.Found.{numbers, Ready, FoundIn, FoundFirst};
+use crate::peel;
 
 // The rules of a kind, by number, lowest first.
 struct Kind {
@@ -136,73 +139,6 @@ fn gather(column: &[u16; 2048], list: &[u16; 2048], len: usize) -> [u16; 2048]
     picked
 }
 
-// The transitions at the `to` end of a rule whose `from` end remains.
-fn reached(from: &[u16; 2048], to: &[u16; 2048], len: usize, alive: &[u8; 256]) -> [u8; 256]
-    requires { ⌜ Within (now from) (now to) len ⌝ }
-    ensures { λ r. ⌜ Marked (now (from .entry)) (now (to .entry)) len (now (alive .entry)) r ⌝ }
-{
-    let mut marks = [0u8; 256];
-    let mut j = 0;
-    while j < len {
-        let u = wide(from[j]);
-        let w = wide(to[j]);
-        if alive[u] == 1 {
-            marks[w] = 1;
-        }
-        j += 1;
-    }
-    marks
-}
-
-// A transition that remains, and that no remaining rule enters, or none leaves.
-fn loose(alive: u8, entered: u8, left: u8) -> bool
-    ensures { λ r. ⌜ (r ≡ true → (0 < alive) × ((entered ≡ 0) ⊎ (left ≡ 0))) ⌝ }
-{
-    if alive == 0 {
-        return false;
-    }
-    if entered == 0 {
-        return true;
-    }
-    if left == 0 {
-        return true;
-    }
-    false
-}
-
-// Strikes out each transition that no remaining rule enters, or none leaves. Tells whether one was struck.
-fn strike(n: usize, entered: &[u8; 256], left: &[u8; 256], alive: &mut [u8; 256]) -> bool
-    requires { ⌜ n ≤ 256 ⌝ }
-    ensures { λ r. ⌜ Struck (now (entered .entry)) (now (left .entry)) (now (alive .entry)) (now (alive .exit)) r ⌝ }
-{
-    let mut struck = false;
-    let mut v = 0;
-    while v < n {
-        if loose(alive[v], entered[v], left[v]) {
-            alive[v] = 0;
-            struck = true;
-        }
-        v += 1;
-    }
-    struck
-}
-
-// Strikes until nothing more can be struck. Every transition on a loop remains.
-fn peel(source: &[u16; 2048], target: &[u16; 2048], len: usize, n: usize) -> [u8; 256]
-    requires { ⌜ Within (now source) (now target) len ⌝ }
-    requires { ⌜ n ≤ 256 ⌝ }
-    ensures { λ r. ⌜ Stays (plain (now (source .entry)) (now (target .entry)) len) r ⌝ }
-{
-    let mut alive = [1u8; 256];
-    let mut struck = true;
-    while struck {
-        let entered = reached(source, target, len, &alive);
-        let left = reached(target, source, len, &alive);
-        struck = strike(n, &entered, &left, &mut alive);
-    }
-    alive
-}
-
 // How far t is from v, where d is the least number of rules, 1 or more, from t to v.
 fn away(t: usize, v: usize, d: u16) -> usize
     ensures { λ r. ⌜ r ≡ awayFrom v t d ⌝ }
@@ -213,70 +149,103 @@ fn away(t: usize, v: usize, d: u16) -> usize
     wide(d)
 }
 
-// A rule from s to t shows a shorter way from s to v.
-fn nearer(s: usize, t: usize, v: usize, dist: &mut [u16; 256]) -> bool
-    requires { ⌜ (s < 256) × (t < 256) × (getD (now dist) t 0 ≤ 512) ⌝ }
-    ensures { λ r. ⌜ Nearer v s t (now (dist .entry)) (now (dist .exit)) r ⌝ }
+// Transition s is d away, unless its distance was found before; a new one joins the queue.
+fn note(s: usize, d: usize, count: usize, dist: &mut [u16; 256], order: &mut [u16; 256]) -> usize
+    requires { ⌜ (s < 256) × (d < 512) × (getD (now dist) s 0 ≤ 512) × (getD (now dist) s 0 ≡ 512 → count < 256) ⌝ }
+    ensures { λ r. ⌜ Noted s d (now (dist .entry)) (now (dist .exit)) (now (order .entry)) (now (order .exit)) count r ⌝ }
 {
-    let d = away(t, v, dist[t]) + 1;
-    if d < wide(dist[s]) {
-        dist[s] = narrow(d);
-        return true;
+    if wide(dist[s]) < FAR {
+        return count;
     }
-    false
+    dist[s] = narrow(d);
+    order[count] = narrow(s);
+    count + 1
 }
 
-// The rule at turn i: the list is gone through up and down.
-fn turn(down: bool, len: usize, i: usize) -> usize
-    requires { ⌜ i < len ⌝ }
-    ensures { λ r. ⌜ (r ≡ turnOf down len i) × (r < len) ⌝ }
-{
-    if down {
-        return len - 1 - i;
-    }
-    i
-}
-
-// Every rule once. Tells whether a distance fell.
-fn sweep(
+// The source of each rule into t is d away, unless its distance was found before. The rules are linked by their targets.
+fn look_back(
     source: &[u16; 2048],
     target: &[u16; 2048],
     len: usize,
-    down: bool,
+    head: &[u16; 256],
+    next: &[u16; 2048],
     v: usize,
+    t: usize,
+    d: usize,
+    count: usize,
     dist: &mut [u16; 256],
-) -> bool
-    requires { ⌜ Within (now source) (now target) len ⌝ }
-    requires { ⌜ Near (plain (now source) (now target) len) v (now dist) ⌝ }
-    ensures { λ r. ⌜ Swept (plain (now (source .entry)) (now (target .entry)) len) v (now (dist .entry)) (now (dist .exit)) r ⌝ }
+    order: &mut [u16; 256],
+) -> usize
+    requires { ⌜ (Within (now source) (now target) len) × (Linked (now target) len (now head) (now next)) × (t < 256) ⌝ }
+    requires { ⌜ Searching (plain (now source) (now target) len) v t d (now dist) (now order) count ⌝ }
+    ensures { λ r. ⌜ Looking (plain (now (source .entry)) (now (target .entry)) len) v t d (now (dist .entry)) (now (order .entry)) count (now (dist .exit)) (now (order .exit)) r 0 ⌝ }
 {
-    let mut fell = false;
-    let mut i = 0;
-    while i < len {
-        let j = turn(down, len, i);
-        let s = wide(source[j]);
-        let t = wide(target[j]);
-        if nearer(s, t, v, dist) {
-            fell = true;
-        }
-        i += 1;
+    let mut found = count;
+    let mut left = wide(head[t]);
+    while 0 < left {
+        let r = left - 1;
+        let s = wide(source[r]);
+        found = note(s, d, found, dist, order);
+        left = wide(next[r]);
     }
-    fell
+    found
 }
 
-// The least number of rules, 1 or more, from each transition to v.
-fn near(source: &[u16; 2048], target: &[u16; 2048], len: usize, v: usize) -> [u16; 256]
-    requires { ⌜ Within (now source) (now target) len ⌝ }
+// The least number of rules, 1 or more, from each transition to v: breadth first, so that each rule is looked at once.
+fn near(
+    source: &[u16; 2048],
+    target: &[u16; 2048],
+    len: usize,
+    head: &[u16; 256],
+    next: &[u16; 2048],
+    v: usize,
+) -> [u16; 256]
+    requires { ⌜ (Within (now source) (now target) len) × (Linked (now target) len (now head) (now next)) × (v < 256) ⌝ }
     ensures { λ r. ⌜ (Near (plain (now (source .entry)) (now (target .entry)) len) v r) × (Settled (plain (now (source .entry)) (now (target .entry)) len) v r) ⌝ }
 {
     let mut dist = [512u16; 256];
-    let mut down = true;
-    let mut fell = true;
-    while fell {
-        fell = sweep(source, target, len, down, v, &mut dist);
-        down = !down;
+    let mut order = [0u16; 256];
+    let mut count = look_back(
+        source,
+        target,
+        len,
+        head,
+        next,
+        v,
+        v,
+        1,
+        0,
+        &mut dist,
+        &mut order,
+    );
+    let mut done = 0;
+    while done < count {
+        let t = wide(order[done]);
+        let d = wide(dist[t]) + 1;
+        count = look_back(
+            source,
+            target,
+            len,
+            head,
+            next,
+            v,
+            t,
+            d,
+            count,
+            &mut dist,
+            &mut order,
+        );
+        done += 1;
     }
     dist
+}
+
+// The rule at turn i: the list is gone through from the last rule down.
+fn turn(len: usize, i: usize) -> usize
+    requires { ⌜ i < len ⌝ }
+    ensures { λ r. ⌜ (r ≡ len - 1 - i) × (r < len) ⌝ }
+{
+    len - 1 - i
 }
 
 // At each transition the lowest rule that comes one nearer to v: the last found, from the last rule down.
@@ -294,7 +263,7 @@ fn ways(
     let mut next = [0u16; 256];
     let mut i = 0;
     while i < len {
-        let j = turn(true, len, i);
+        let j = turn(len, i);
         let s = wide(source[j]);
         let t = wide(target[j]);
         if away(t, v, dist[t]) + 1 == wide(dist[s]) {
@@ -328,22 +297,27 @@ fn route(
     rules
 }
 
-// The first loop of the rules from source[j] to target[j], j below len; rule j goes by the number list[j].
-fn first_loop(
+// The first loop of the rules from source[j] to target[j], j below len; rule j goes by the number list[j]. It is read from the lowest transition truly on
+// one: a transition may remain though it is on none, between two loops.
+fn seek_loop(
     source: &[u16; 2048],
     target: &[u16; 2048],
     list: &[u16; 2048],
     len: usize,
     n: usize,
+    alive: &[u8; 256],
 ) -> Found
     requires { ⌜ Limits (now source) (now target) [] len n ⌝ }
+    requires { ⌜ Stays (plain (now source) (now target) len) (now alive) ⌝ }
     ensures { λ r. ⌜ FoundIn (plain (now (source .entry)) (now (target .entry)) len) (now (list .entry)) n (r .len) (r .at) (r .rules) ⌝ }
 {
-    let alive = peel(source, target, len, n);
+    let mut head = [0u16; 256];
+    let mut links = [0u16; 2048];
+    peel::link(target, len, &mut head, &mut links);
     let mut at = 0;
     while at < n {
         if alive[at] == 1 {
-            let dist = near(source, target, len, at);
+            let dist = near(source, target, len, &head, &links, at);
             let k = wide(dist[at]);
             if k < FAR {
                 let next = ways(source, target, len, at, &dist);
@@ -356,6 +330,29 @@ fn first_loop(
             }
         }
         at += 1;
+    }
+    Found {
+        len: 0,
+        at: 0,
+        rules: [0u16; 256],
+    }
+}
+
+// The first loop of those rules. There is one exactly when peeling leaves a remnant; only then is its place sought.
+fn first_loop(
+    source: &[u16; 2048],
+    target: &[u16; 2048],
+    list: &[u16; 2048],
+    len: usize,
+    n: usize,
+) -> Found
+    requires { ⌜ Limits (now source) (now target) [] len n ⌝ }
+    ensures { λ r. ⌜ FoundIn (plain (now (source .entry)) (now (target .entry)) len) (now (list .entry)) n (r .len) (r .at) (r .rules) ⌝ }
+{
+    let peeled = peel::peel(source, target, len, n);
+    if peeled.count < n {
+        let alive = peeled.alive;
+        return seek_loop(source, target, list, len, n, &alive);
     }
     Found {
         len: 0,

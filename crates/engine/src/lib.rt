@@ -5,6 +5,7 @@ mod columns;
 mod first;
 mod laps;
 mod order;
+mod peel;
 mod scan;
 
 ghost use Rattle.engine.specs.Lap.{LapOf};

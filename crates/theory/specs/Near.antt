@@ -141,7 +141,7 @@ module _ (A : ℕ → Type 0) (S T : Shape) (f : ℕ → ℕ) (p : Picks A S T f
   named-order u w (j ∷ js) (k ∷ ks) h (inl a) = inl (p .ascending j k a (h .0))
   named-order u w (j ∷ js) (k ∷ ks) h (inr a) = inr (ap f (a .0), named-order (T.target k) w js ks (h .2) (a .1))
 
-  named-loop : (u : ℕ) (js : List ℕ) → Loop T u js → KindLoop S A u (map f js)
+  pub named-loop : (u : ℕ) (js : List ℕ) → Loop T u js → KindLoop S A u (map f js)
   named-loop u js l =
       record {
         is-loop = record {

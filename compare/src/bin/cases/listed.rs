@@ -71,7 +71,7 @@ const TARGET_OUT: &str = "n 2: 0>2/1/5";
 
 /// Name, table, call. A table within the limits is also handed in as its file, but for writing.
 #[rustfmt::skip] // One case a line.
-pub const TABLES: [(&str, &str, &str); 79] = [
+pub const TABLES: [(&str, &str, &str); 82] = [
     ("worked P1", P1, "analyse 3 3 3"),
     ("worked P1, three occurrences", P1, "simulate 3 7"),
     ("worked P2", "n 2: 0>1/0/3, 1>0/2/4", "analyse 3 3 3"),
@@ -112,6 +112,10 @@ pub const TABLES: [(&str, &str, &str); 79] = [
     ("lowest transition on a loop of offset 0", "n 4: 1>1/1/1, 0>1/0/1, 3>2/0/1, 2>3/0/?", "analyse 4 4 4"),
     ("the same by rate", "n 4: 1>1/1/1, 0>1/0/1, 3>2/0/1, 2>3/0/?", "rate 0"),
     ("the same by simulation", "n 4: 1>1/1/1, 0>1/0/1, 3>2/0/1, 2>3/0/1", "simulate 1 4"),
+    // 0 lies between the loops 1 2 and 3 4: no peeling strikes it out, and it is on neither.
+    ("a bridge between two loops of offset 0", "n 5: 2>0/0/1, 0>3/0/1, 4>3/0/1, 3>4/0/1, 2>1/0/1, 1>2/0/1", "analyse 5 5 5"),
+    ("the bridge by simulation", "n 5: 2>0/0/1, 0>3/0/1, 4>3/0/1, 3>4/0/1, 2>1/0/1, 1>2/0/1", "simulate 1 5"),
+    ("only leads to a loop of offset 0", "n 4: 3>2/0/1, 2>3/0/1, 1>2/0/1, 0>1/0/1, 0>0/1/5", "analyse 4 4 4"),
     ("lowest unknown rule", "n 1: 0>0/1/1, 0>0/2/?, 0>0/3/?", "simulate 1 1"),
     ("7/2 beside 3/1", "n 2: 0>0/1/3, 0>1/0/3, 1>0/2/4", "analyse 2 2 2"),
     ("fewest rules, then the first", "n 2: 0>1/0/5, 1>0/1/5, 1>1/1/10, 0>0/1/10, 0>0/1/10", "analyse 2 2 2"),

@@ -1,103 +1,29 @@
--- `engine::first::first_loop` meets its contract: the first loop of the gathered rules.
--- The loop's invariant: no loop starts at a transition tried before. The measure is the number of transitions left to try.
+-- `engine::first::first_loop` meets its contract: there is a loop only where peeling leaves a remnant, and then it is sought.
 -- Assumes nothing.
-use Prim.Native.Nat.{_-_, _≤_}
-use mathlib.Core.Logic.{⊎-elim}
-use Rattle.engine.specs.Listed.{plain, limits-within}
-use Rattle.engine.specs.Found.{NoneBelow, none-struck, none-far, ready, found-here, found-none}
-use native.Mathlib.Omega.{arith}
+use Rattle.engine.specs.Listed.{plain}
+use Rattle.engine.specs.Peel.{remnant-stays}
+use Rattle.engine.specs.Found.{found-peeled}
+use borrow.Author.Needs.{needs}
 use Rattle.engine.proofs.first.first_loop.Statement.{statement}
 use Rattle.engine.proofs.first.first_loop.Tie as tie
 
-abbrev Inv-loop : tie.InvT-loop
-Inv-loop source target list len n alive at₀ at = (at ≤ n) × NoneBelow (plain source target len) at
+peel-requires : tie.Need-peel-requires
+peel-requires c κs = search needs
 
-abbrev μ-loop : tie.MeasureT-loop
-μ-loop source target list len n alive at₀ at = n - at
-
-peel-requires : tie.Need-peel-requires Inv-loop μ-loop
-peel-requires c κs = let a = c .args in (limits-within (a .source .now) (a .target .now) (a .len) (a .n) (c .pre), c .pre .few-transitions)
-
-loop-holds : tie.Need-loop-holds Inv-loop μ-loop
-loop-holds c = (omega arith, λ w js l. absurd (omega arith))
-
-array-read-if1 : tie.Need-array-read-if1 Inv-loop μ-loop
-array-read-if1 c = omega (arith, c .before .before .before .pre .few-transitions)
-
-near-requires : tie.Need-near-requires Inv-loop μ-loop
-near-requires c κs = let s = c .before .before .before .before in let a = s .args in limits-within (a .source .now) (a .target .now) (a .len) (a .n) (s .pre)
-
-mul-wide : tie.Need-mul-wide Inv-loop μ-loop
-mul-wide c = omega (arith, c .before .before .before .before .before .pre .few-transitions)
-
-array-read-wide : tie.Need-array-read-wide Inv-loop μ-loop
-array-read-wide c = omega (arith, c .before .before .before .before .before .pre .few-transitions)
-
-wide-requires : tie.Need-wide-requires Inv-loop μ-loop
-wide-requires c κs = omega arith
-
-ways-requires : tie.Need-ways-requires Inv-loop μ-loop
-ways-requires c κs = let s = c .before .before .before .before .before .before .before .before in let a = s .args in (limits-within (a .source .now) (a .target .now) (a .len) (a .n) (s .pre), c .before .before .before .near .ensures .0 .low)
-
-route-requires : tie.Need-route-requires Inv-loop μ-loop
-route-requires c κs =
-    let s = c .before .before .before .before .before .before .before .before .before .before in
+seek-loop-requires : tie.Need-seek-loop-requires
+seek-loop-requires c κs =
+    let s = c .before .before .before .before .before in
     let a = s .args in
-    let near = c .before .before .before .before .before .near .ensures in
-    let k = c .before .before .before .before .wide .ensures in
-    rw k (ready (a .source .now) (a .target .now) (a .len) (a .n) _ _ _ (s .pre) (c .before .before .before .before .before .before .before .loop-test .taken) (near .0) (near .1) (c .before .ways .ensures) (rw k at (c .before .before .before .if2 .taken)))
+    (s .pre, remnant-stays (plain (a .source .now) (a .target .now) (a .len)) (a .n) (s .pre .fits) (s .pre .few-transitions) _ (c .before .before .before .before .peel .ensures .remnant))
 
-returns : tie.Need-returns Inv-loop μ-loop
-returns c =
-    let l = c .before .before .before .before .before .before .before .before .before in
-    let s = c .before .before .before .before .before .before .before .before .before .before .before in
-    let a = s .args in
-    let near = c .before .before .before .before .before .before .near .ensures in
-    let k = c .before .before .before .before .before .wide .ensures in
-    rw k (found-here (a .source .now) (a .target .now) (a .len) (a .n) _ _ _ (s .pre) (c .before .before .before .before .before .before .before .before .loop-test .taken) (near .0) (near .1) (c .before .before .ways .ensures) (rw k at (c .before .before .before .before .if2 .taken)) (a .list .now) _ (l .loop .inv .1) (rw k at (c .route .ensures)))
+returns : tie.Need-returns
+returns c = search needs
 
-add-at : tie.Need-add-at Inv-loop μ-loop
-add-at c = omega arith
-
-loop-less : tie.Need-loop-less Inv-loop μ-loop
-loop-less c = omega arith
-
-loop-again : tie.Need-loop-again Inv-loop μ-loop
-loop-again c =
-    let l = c .before .before in
-    let s = c .before .before .before .before in
-    let a = s .args in (
-      omega arith,
-      ⊎-elim
-          (λ w. none-far (plain (a .source .now) (a .target .now) (a .len)) (l .loop .at) (l .loop .inv .1) (a .n) (w .1 .result) (s .pre .fits) (s .pre .few-transitions) (w .1 .ensures .1) (omega (arith, w .3 .left)))
-          (λ w. none-struck (plain (a .source .now) (a .target .now) (a .len)) (l .loop .at) (l .loop .inv .1) (l .before .peel .result) (l .before .peel .ensures) (λ e. omega (arith, w .left)))
-          (c .if1 .came),
-    )
-
-returns-2 : tie.Need-returns-2 Inv-loop μ-loop
+returns-2 : tie.Need-returns-2
 returns-2 c =
-    let l = c .before in
-    let s = l .before .before in
+    let s = c .before .before .before in
     let a = s .args in
-    found-none (a .source .now) (a .target .now) (a .list .now) (a .len) (a .n) (l .loop .at) _ (s .pre) (l .loop .inv .1) (c .loop-test .left)
+    found-peeled (a .source .now) (a .target .now) (a .list .now) (a .len) (a .n) _ _ _ _ (s .pre) (c .before .before .peel .ensures) (c .if1 .left)
 
 pub first-loop-spec : {M : Type 1} → statement M
-first-loop-spec =
-    tie.close
-    (tie.spec
-    Inv-loop
-    μ-loop
-    peel-requires
-    loop-holds
-    array-read-if1
-    near-requires
-    mul-wide
-    array-read-wide
-    wide-requires
-    ways-requires
-    route-requires
-    returns
-    add-at
-    loop-less
-    loop-again
-    returns-2)
+first-loop-spec = tie.close (tie.spec peel-requires seek-loop-requires returns returns-2)
