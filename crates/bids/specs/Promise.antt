@@ -7,8 +7,9 @@
 --   choiceOf a b                    the better of two bids; at equal high ends the first; neither, where neither can be analysed
 --   LaidOf s t l                    THE PROMISE of `side_by_side`
 --   File                            a lent file: where it lies (ptr) and its bytes (now)
---   Handed c a x y r w f p          what is handed back for the choice c between the files x and y, of which a is known of x: the part r, which of the two w,
---                                   a refusal f and its place p
+--   Chosen z u r w f p              the part r is the file z, number u of the two; no refusal
+--   Handed c a x y r w f p          what is handed back for the choice c between the files x and y, where a is known of x: the part r, the number w of its
+--                                   file, 0 or 1, a refusal f and its place p
 --   BetterOf x y r w f p            THE PROMISE of `better`
 --
 -- Theorems: bid-unique, laid-unique, better-unique (one outcome each); bid-first (the first bytes of a file decide).
@@ -116,11 +117,15 @@ laid-unique s t l m x y =
 abbrev pub File : Type 0
 File = RefT (List ℕ)
 
--- the chosen file itself, with 0 and 0; or the first file's refusal, which is 0, and the empty part at that file's start
+-- the file z itself, which is number u of the two, and no refusal
+abbrev pub Chosen : File → ℕ → File → ℕ → ℕ → ℕ → Type 0
+Chosen z u r w f p = (r ≡ z) × (w ≡ u) × (f ≡ 0) × (p ≡ 0)
+
+-- where neither can be analysed, the empty part at the first file's start, number 0, and that file's refusal and place
 abbrev pub Handed : Choice → Bid → File → File → File → ℕ → ℕ → ℕ → Type 0
 Handed Neither a x y r w f p = (now r ≡ []) × (ptr r ≡ ptr x) × (w ≡ 0) × (f ≡ a .refusal) × (p ≡ a .place)
-Handed First a x y r w f p = (r ≡ x) × (w ≡ 0) × (f ≡ 0) × (p ≡ 0)
-Handed Second a x y r w f p = (r ≡ y) × (w ≡ 1) × (f ≡ 0) × (p ≡ 0)
+Handed First a x y r w f p = Chosen x 0 r w f p
+Handed Second a x y r w f p = Chosen y 1 r w f p
 
 pub record BetterOf (x y r : File) (w f p : ℕ) : Type 0 where
   pub first : Bid
@@ -137,13 +142,16 @@ pub record Same (r r′ : File) (w w′ f f′ p p′ : ℕ) : Type 0 where
   pub refusal : f ≡ f′
   pub place : p ≡ p′
 
+chosen-same : (z : File) (u : ℕ) (r r′ : File) (w w′ f f′ p p′ : ℕ) → Chosen z u r w f p → Chosen z u r′ w′ f′ p′ → Same r r′ w w′ f f′ p p′
+chosen-same z u r r′ w w′ f f′ p p′ h k =
+    let e = h .0 ∙ sym (k .0) in
+    record { place-of = ap (λ (z : File). ptr z) e; bytes = ap (λ (z : File). now z) e; which = h .1 ∙ sym (k .1); refusal = h .2 ∙ sym (k .2); place = h .3 ∙ sym (k .3) }
+
 handed-same : (c : Choice) (a : Bid) (x y r r′ : File) (w w′ f f′ p p′ : ℕ) → Handed c a x y r w f p → Handed c a x y r′ w′ f′ p′ → Same r r′ w w′ f f′ p p′
 handed-same Neither a x y r r′ w w′ f f′ p p′ h k =
     record { place-of = h .1 ∙ sym (k .1); bytes = h .0 ∙ sym (k .0); which = h .2 ∙ sym (k .2); refusal = h .3 ∙ sym (k .3); place = h .4 ∙ sym (k .4) }
-handed-same First a x y r r′ w w′ f f′ p p′ h k =
-    record { place-of = ap (λ (z : File). ptr z) (h .0 ∙ sym (k .0)); bytes = ap (λ (z : File). now z) (h .0 ∙ sym (k .0)); which = h .1 ∙ sym (k .1); refusal = h .2 ∙ sym (k .2); place = h .3 ∙ sym (k .3) }
-handed-same Second a x y r r′ w w′ f f′ p p′ h k =
-    record { place-of = ap (λ (z : File). ptr z) (h .0 ∙ sym (k .0)); bytes = ap (λ (z : File). now z) (h .0 ∙ sym (k .0)); which = h .1 ∙ sym (k .1); refusal = h .2 ∙ sym (k .2); place = h .3 ∙ sym (k .3) }
+handed-same First a x y r r′ w w′ f f′ p p′ h k = chosen-same x 0 r r′ w w′ f f′ p p′ h k
+handed-same Second a x y r r′ w w′ f f′ p p′ h k = chosen-same y 1 r r′ w w′ f f′ p p′ h k
 
 -- ONLY ONE OUTCOME
 pub better-unique : (x y r r′ : File) (w w′ f f′ p p′ : ℕ) → BetterOf x y r w f p → BetterOf x y r′ w′ f′ p′ → Same r r′ w w′ f f′ p p′
