@@ -227,6 +227,41 @@ static void files_part() {
            16388 / reading, 16388 / writing);
 }
 
+// -------------------------------------------------------------------------------------------------------------------- bids
+
+using Bytes = std::vector<uint8_t>;
+
+static period_bids_result bids(const Bytes& first, const Bytes& second) { return period_bids(first.data(), first.size(), second.data(), second.size()); }
+
+static void analyse(const Bytes& file, Whole& out) {
+    out.result = period_file_analyse(file.data(), file.size(), out.schedule, HIGHEST_N, out.low, HIGHEST_N, out.high, HIGHEST_N);
+}
+
+// Two files of a family side by side, beside the analyses of the two: the better one must cost two readings and two measurings, and no more.
+static void bids_of(const Family& family) {
+    std::vector<Bytes> files;
+    for (int k = 0; k < TABLES; k++) files.push_back(file_of(make(family, FULL, uint64_t(k + 1))));
+    static Whole a, b;
+    for (int k = 0; k < TABLES; k++) {
+        const Bytes &first = files[k], &second = files[(k + 1) % TABLES];
+        analyse(first, a), analyse(second, b);
+        bool lower = b.result.high_p * a.result.high_q < a.result.high_p * b.result.high_q;
+        period_bids_result r = bids(first, second);
+        if (r.refusal != 0 || r.place != 0 || r.which != uint32_t(lower) || r.length != (lower ? second : first).size()) wrong("bids", family.name, k);
+    }
+    double both = measured(TABLES, [&](int k) { kept += bids(files[k], files[(k + 1) % TABLES]).which; });
+    double twice = measured(TABLES, [&](int k) { analyse(files[k], a), analyse(files[(k + 1) % TABLES], b); });
+    printf("%-28s %9.1f %9.1f %8.2f\n", family.name, both, twice, both / twice);
+    fflush(stdout);
+}
+
+static void bids_part() {
+    printf("The better of two files, microseconds, beside the analysis of each of the two from its bytes:\n");
+    printf("%-28s %9s %9s %8s\n", "family", "bids", "twice", "/twice");
+    for (size_t f : {size_t(1), size_t(2), size_t(8), size_t(13), size_t(15)}) bids_of(families()[f]);
+    printf("\n");
+}
+
 // -------------------------------------------------------------------------------------------------------------- simulation
 
 static std::vector<uint64_t> times(HIGHEST_N * 1024);
@@ -305,6 +340,7 @@ int main(int count, char** words) {
     if (only) return 0;
 #ifndef ANALYSIS_ONLY
     files_part();
+    bids_part();
     FILE* simulation = data_file(folder, "simulation.dat");
     simulation_part(simulation);
     fclose(simulation);

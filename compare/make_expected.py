@@ -174,6 +174,29 @@ number, a fourth group: refused 2 at 0
 number, last group zero: refused 2 at 0"""
 
 
+# Two files side by side. 1000000/15 is 66666.66.., 933333/14 is 66666.64..; the file with a blank at offset 2 ends at 500000/1.
+BIDS = [
+    ("lower end first", "which 0, length 10"),
+    ("lower end second, its low end higher", "which 1, length 10"),
+    ("equal ends", "which 0, length 10"),
+    ("equal ends, the other way", "which 0, length 6"),
+    ("equal bytes", "which 0, length 10"),
+    ("7/2 and 3/1", "which 1, length 6"),
+    ("3/1 and 7/2", "which 0, length 6"),
+    ("200000/3 and 933333/14", "which 1, length 8"),
+    ("933333/14 and 200000/3", "which 0, length 8"),
+    ("two ranges with one low end", "which 1, length 6"),
+    ("only the first, the second refused 5", "which 0, length 10"),
+    ("only the second, the first refused 6", "which 1, length 10"),
+    ("only the second, the first refused 4", "which 1, length 10"),
+    ("neither, 5 and 6", "refused 5 at 0"),
+    ("neither, 6 and 5", "refused 6 at 0"),
+    ("neither, 4 and 5", "refused 4 at 2"),
+    ("neither, 5 and 4", "refused 5 at 0"),
+    ("neither, 3 and 6", "refused 3 at 0"),
+    ("neither, 4 before 5", "refused 4 at 6"),
+]
+
 # A file that reading refuses, whatever the call would say.
 DAMAGED = ["refused 1 at 7", "refused 2 at 8", "refused 3 at 6", "refused 4 at 6"]
 
@@ -251,3 +274,5 @@ tables()
 print(FILES)
 damaged()
 published(open(sys.argv[1]).read())
+for name, answer in BIDS:
+    print(f"bids, {name}: {answer}")

@@ -103,6 +103,14 @@ typedef struct {
     size_t rest;
 } period_number_result;
 
+/* which: 0 the first file, 1 the second; length: how many bytes of it, from its first on, are the part handed back. */
+typedef struct {
+    uint32_t refusal;
+    uint32_t which;
+    size_t place;
+    size_t length;
+} period_bids_result;
+
 /* ---- a table as columns ---- */
 
 /* The two ends of the period, over all values from 0 to 1000000 of the unknown delays.
@@ -193,6 +201,17 @@ period_count period_report(const uint8_t *bytes, size_t bytes_len, uint8_t *out,
 /* One number in groups of seven bits at the front of the bytes: its value and how many bytes are left after it.
  * Refused, in this order: 1, 2, 3 (not from low to high); then value and rest are 0. */
 period_number_result period_number(const uint8_t *bytes, size_t bytes_len, uint32_t low, uint32_t high);
+
+/* ---- two files ---- */
+
+/* The better of two bids: the file whose high end is lower; at equal high ends the first. The ends are those of period_file_analyse, compared
+ * exactly. A file that cannot be analysed is passed over, and is no refusal of this call where the other can. The part handed back is the whole
+ * of that file: it starts where the file starts, and `length` is its length. No buffer is written, and the two files may overlap.
+ * Refused, where neither can be analysed, with the first file's number and place, in this order: 1 to 4 as reading goes, 5, 6, 11; then which
+ * and length are 0: the empty part at the first file's start. */
+period_bids_result period_bids(
+    const uint8_t *first, size_t first_len,
+    const uint8_t *second, size_t second_len);
 
 #ifdef __cplusplus
 }

@@ -1,5 +1,7 @@
 //! Which calls are made on a table or a file, and what is done with the two answers.
 
+use reference::analyse::Range;
+use reference::bids;
 use reference::file;
 use reference::notation;
 use reference::refusal::Refusal;
@@ -23,6 +25,8 @@ pub struct Compare {
     pub differing: u64,
     /// How often each number of refusal came up; 0 is an answer.
     outcomes: [u64; 12],
+    /// How often each kind of pair of bids came up.
+    pairs: [u64; 6],
 }
 
 impl Compare {
@@ -33,6 +37,7 @@ impl Compare {
             calls: 0,
             differing: 0,
             outcomes: [0; 12],
+            pairs: [0; 6],
         }
     }
 
@@ -41,6 +46,11 @@ impl Compare {
         let counts = self.outcomes.iter().enumerate();
         let shown: Vec<String> = counts.map(|(k, count)| format!("{k}: {count}")).collect();
         println!("outcomes by number of refusal: {}", shown.join(", "));
+        let [first, second, equal, only_first, only_second, neither] = self.pairs;
+        println!(
+            "pairs of bids: first better {first}, second better {second}, equal high ends {equal}, \
+             only the first {only_first}, only the second {only_second}, neither {neither}"
+        );
     }
 
     // ---------------------------------------------------------------------------------------------- tables
@@ -166,6 +176,24 @@ impl Compare {
         self.hold(&wanted, &ours, || on_file(part, call));
     }
 
+    // ------------------------------------------------------------------------------------------- two files
+
+    /// Both orders, and each file beside itself, through the C face and through the Rust crate.
+    pub fn bids(&mut self, files: [&[u8]; 2]) {
+        let known = files.map(expected::ends);
+        for [a, b] in [[0, 1], [1, 0], [0, 0], [1, 1]] {
+            let (pair, ends) = ([files[a], files[b]], [known[a], known[b]]);
+            self.pairs[kind_of(&ends)] += 1;
+            let what = || format!("bids {} and {}", hex(pair[0]), hex(pair[1]));
+            self.hold(&expected::bids(pair, ends), &product::bids(pair), what);
+            self.calls += 1;
+            if !safe::better_is(pair, bids::choice(ends[0], ends[1])) {
+                println!("DIFFERENCE in the Rust crate's better\n{}", what());
+                self.differ();
+            }
+        }
+    }
+
     // ------------------------------------------------------------------------------------------ both answers
 
     fn hold(&mut self, wanted: &Outcome, ours: &Outcome, what: impl Fn() -> String) {
@@ -198,6 +226,18 @@ const NEVER_USED: Refusal = Refusal {
     number: 0,
     place: 0,
 };
+
+/// In the order of the print.
+fn kind_of(ends: &[Result<Range, Refusal>; 2]) -> usize {
+    match ends {
+        [Ok(first), Ok(second)] if first.high < second.high => 0,
+        [Ok(first), Ok(second)] if second.high < first.high => 1,
+        [Ok(_), Ok(_)] => 2,
+        [Ok(_), Err(_)] => 3,
+        [Err(_), Ok(_)] => 4,
+        [Err(_), Err(_)] => 5,
+    }
+}
 
 /// The numbers, and of the buffers those that differ.
 fn shown(outcome: &Outcome, other: &Outcome) -> String {

@@ -2,7 +2,8 @@
 
 use std::cell::OnceCell;
 
-use reference::analyse::{analyse, analyse_by, Analysis, Range, Room, LISTING};
+use reference::analyse::{analyse, analyse_by, range_by, Analysis, Range, Room, EXACT, LISTING};
+use reference::bids;
 use reference::file;
 use reference::gen::Size;
 use reference::rate::rate;
@@ -226,6 +227,25 @@ fn number_outcome(bytes: &[u8], low: u32, high: u32) -> Outcome {
     let numbers = match file::read_number(bytes, low, high) {
         Err(fault) => vec![fault.number as u64, 0, fault.place, 0],
         Ok((value, rest)) => vec![0, value as u64, 0, rest.len() as u64],
+    };
+    Outcome {
+        numbers,
+        buffers: vec![],
+    }
+}
+
+/// What is known of a bid, by listing every loop where the table is small.
+pub fn ends(bytes: &[u8]) -> Result<Range, Refusal> {
+    let table = file::read(bytes)?;
+    let way = if listed(&table) { &LISTING } else { &EXACT };
+    range_by(way, &table)
+}
+
+/// Which of two files is the better, of which this is known, and how long it is.
+pub fn bids(files: [&[u8]; 2], known: [Result<Range, Refusal>; 2]) -> Outcome {
+    let numbers = match bids::choice(known[0], known[1]) {
+        Err(fault) => vec![fault.number as u64, 0, fault.place, 0],
+        Ok(which) => vec![0, which as u64, 0, files[which].len() as u64],
     };
     Outcome {
         numbers,

@@ -1,5 +1,5 @@
 //! Compares the proved library with the independent second program: small tables, whose every loop is listed,
-//! full-size tables, tables with faulty fields, files sound and damaged, and files cut before every byte.
+//! full-size tables, tables with faulty fields, files sound and damaged, pairs of files, and files cut before every byte.
 //! Every number of every result and every place of every lent buffer is compared. The first differences are
 //! printed with the file in hexadecimal, and the run ends with status 1.
 //!
@@ -16,9 +16,11 @@ mod safe;
 use std::time::Instant;
 
 use cases::Compare;
+use reference::file;
 use reference::gen::{self, Size};
 use reference::notation;
 use reference::rng::Rng;
+use reference::table::{Delay, Table};
 
 fn main() {
     let words: Vec<String> = std::env::args().skip(1).collect();
@@ -39,7 +41,7 @@ fn main() {
 fn run(small: u64, full: u64, seed: u64) {
     println!("seed {seed}");
     let mut compare = Compare::new(seed);
-    let parts: [(&str, u64, fn(&mut Compare, u64)); 8] = [
+    let parts: [(&str, u64, fn(&mut Compare, u64)); 10] = [
         ("laps and files worked by hand", 1, worked),
         ("small tables", small, small_tables),
         ("tables with faulty fields", small / 5, faulty_tables),
@@ -47,6 +49,8 @@ fn run(small: u64, full: u64, seed: u64) {
         ("small files cut before every byte", small / 250, cut_files),
         ("middle tables", small / 25, middle_tables),
         ("full-size tables", full, full_tables),
+        ("pairs of small files", small / 2, small_pairs),
+        ("pairs of full-size files", full / 25, full_pairs),
         (
             "longest files cut before every byte",
             full / 250,
@@ -171,5 +175,46 @@ fn cut_longest(compare: &mut Compare, count: u64) {
         for end in 0..=sound.len() {
             compare.read_only(&sound[..end]);
         }
+    }
+}
+
+/// Sound and damaged ones, beside others, beside themselves, and beside ones that differ in a delay.
+fn small_pairs(compare: &mut Compare, count: u64) {
+    for k in 0..count {
+        let mut rng = seeded(compare, 8, k);
+        let first = some_file(&mut rng);
+        let second = match (rng.below(4), file::read(&first)) {
+            (0, _) => first.clone(),
+            (1, Ok(table)) => file::write(&with_another_delay(&mut rng, table)),
+            _ => some_file(&mut rng),
+        };
+        compare.bids([&first, &second]);
+    }
+}
+
+fn some_file(rng: &mut Rng) -> Vec<u8> {
+    match rng.once_in(4) {
+        true => gen::file(rng, Size::SMALL),
+        false => gen::sound_file(rng, Size::SMALL),
+    }
+}
+
+fn with_another_delay(rng: &mut Rng, mut table: Table) -> Table {
+    if table.m > 0 {
+        let r = rng.below(table.m as u64) as usize;
+        table.rules[r].delay = rng.pick(&[Delay::Unknown, Delay::Known(0), Delay::Known(7)]);
+    }
+    table
+}
+
+/// A table and the same with one delay changed, so that ends are near each other or equal.
+fn full_pairs(compare: &mut Compare, count: u64) {
+    for k in 0..count {
+        let mut rng = seeded(compare, 9, k);
+        let (_, maker) = gen::KINDS[k as usize % gen::KINDS.len()];
+        let table = maker(&mut rng, Size::FULL);
+        let first = file::write(&table);
+        let second = file::write(&with_another_delay(&mut rng, table));
+        compare.bids([&first, &second]);
     }
 }

@@ -304,3 +304,19 @@ pub fn number(bytes: &[u8], low: u32, high: u32) -> Outcome {
         buffers: vec![],
     }
 }
+
+pub fn bids(files: [&[u8]; 2]) -> Outcome {
+    let [first, second] = files;
+    // SAFETY: each pointer stands beside the length of the slice it came from.
+    let r =
+        unsafe { face::period_bids(first.as_ptr(), first.len(), second.as_ptr(), second.len()) };
+    Outcome {
+        numbers: vec![
+            r.refusal as u64,
+            r.which as u64,
+            r.place as u64,
+            r.length as u64,
+        ],
+        buffers: vec![],
+    }
+}

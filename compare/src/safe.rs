@@ -52,6 +52,15 @@ fn analysis(found: product::Analysis) -> Analysis {
     }
 }
 
+/// Whether the Rust crate hands back the chosen file itself, or the first file's refusal.
+pub fn better_is(files: [&[u8]; 2], wanted: Result<usize, Refusal>) -> bool {
+    match (product::better(files[0], files[1]), wanted) {
+        (Ok((which, file)), Ok(wanted)) => which == wanted && std::ptr::eq(file, files[wanted]),
+        (Err(refusal), Err(wanted)) => fault(refusal) == wanted,
+        _ => false,
+    }
+}
+
 /// The name of the first safe call whose answer differs.
 pub fn differs(table: &Table, occurrences: usize) -> Option<&'static str> {
     let ours = table_of(table);

@@ -19,12 +19,14 @@
 //! | `rate`     | the rate call                                             |
 //! | `simulate` | the simulation call                                       |
 //! | `report`   | the text that the program prints                          |
+//! | `bids`     | two files side by side, the better one, and their text    |
 //! | `notation` | `n 2: 0>1/0/3, 1>0/1/?` read and written                  |
 //! | `vectors`  | the text file of published cases, read                    |
 //! | `rng`      | a small generator of numbers that can be repeated         |
 //! | `gen`      | tables and files made from it                             |
 
 pub mod analyse;
+pub mod bids;
 pub mod check;
 pub mod exact;
 pub mod file;

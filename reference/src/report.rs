@@ -19,7 +19,7 @@ pub fn report(bytes: &[u8]) -> String {
     }
 }
 
-fn refused(fault: Refusal) -> String {
+pub fn refused(fault: Refusal) -> String {
     format!("refused {} at {}\n", fault.number, fault.place)
 }
 
@@ -33,7 +33,7 @@ fn answer(analysis: &Analysis) -> String {
     text
 }
 
-fn period_line(range: &Range) -> String {
+pub fn period_line(range: &Range) -> String {
     if range.exact() {
         format!("period {} exact\n", range.high)
     } else {

@@ -3,7 +3,7 @@
 use std::fs;
 use std::path::Path;
 
-use reference::{file, notation, report::report};
+use reference::{bids, file, notation, report::report};
 
 #[test]
 fn examples_agree() {
@@ -21,4 +21,19 @@ fn examples_agree() {
         }
     }
     assert!(count >= 16, "some examples were lost");
+}
+
+#[test]
+fn pairs_agree() {
+    let folder = Path::new(env!("CARGO_MANIFEST_DIR")).join("../examples/bids");
+    let mut count = 0;
+    for entry in fs::read_dir(folder).unwrap() {
+        let path = entry.unwrap().path();
+        let [first, second] = ["first", "second"]
+            .map(|name| fs::read(path.join(name).with_extension("rules")).unwrap());
+        let expected = fs::read_to_string(path.join("expected")).unwrap();
+        assert_eq!(bids::text(&first, &second), expected, "{path:?}");
+        count += 1;
+    }
+    assert!(count >= 6, "some pairs were lost");
 }

@@ -345,3 +345,30 @@ pub fn number(bytes: &[u8], low: u32, high: u32) -> Result<(u32, &[u8]), Refusal
         (r.value, &bytes[bytes.len() - r.rest..]),
     )
 }
+
+/// The better of two rule files: the one with the lower high end, and at equal high ends the first. It comes back as it was lent, with its
+/// number, 0 or 1. A file that cannot be analysed is passed over; where neither can, the first file's refusal.
+///
+/// ```
+/// use vedhrunak_period::{better, Refusal};
+/// let exact = [2, 2, 0, 1, 0, 4, 1, 0, 1, 5]; // 7/1
+/// let blank = [2, 2, 0, 1, 0, 4, 1, 0, 1, 0]; // from 3/1 to 1000003/1
+/// let stuck = [1, 1, 0, 0, 0, 1]; // a loop without a turn
+/// assert_eq!(better(&blank, &exact), Ok((1, &exact[..])));
+/// assert_eq!(better(&blank, &stuck), Ok((0, &blank[..])));
+/// assert_eq!(better(&stuck, &[]), Err(Refusal::Loop { transition: 0 }));
+///
+/// // No copy: of two equal files the first itself comes back.
+/// let again = exact;
+/// let (which, file) = better(&exact, &again)?;
+/// assert_eq!(which, 0);
+/// assert!(std::ptr::eq(file, &exact[..]));
+/// # Ok::<(), Refusal>(())
+/// ```
+pub fn better<'a>(first: &'a [u8], second: &'a [u8]) -> Result<(usize, &'a [u8]), Refusal> {
+    // SAFETY: each pointer stands beside the length of the slice it came from.
+    let r =
+        unsafe { face::period_bids(first.as_ptr(), first.len(), second.as_ptr(), second.len()) };
+    let file = if r.which == 0 { first } else { second };
+    answer(r.refusal, r.place, (r.which as usize, &file[..r.length]))
+}

@@ -61,6 +61,15 @@ pub struct PeriodNumber {
     pub rest: usize,
 }
 
+#[repr(C)]
+#[derive(Clone, Copy, Debug, PartialEq, Eq)]
+pub struct PeriodBids {
+    pub refusal: u32,
+    pub which: u32,
+    pub place: usize,
+    pub length: usize,
+}
+
 #[rustfmt::skip] // One slice a line, pointer beside length.
 extern "C" {
     pub fn period_analyse(
@@ -143,4 +152,9 @@ extern "C" {
         low: u32,
         high: u32,
     ) -> PeriodNumber;
+
+    pub fn period_bids(
+        first: *const u8, first_len: usize,
+        second: *const u8, second_len: usize,
+    ) -> PeriodBids;
 }

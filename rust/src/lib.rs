@@ -19,7 +19,7 @@
 //! |---|---|
 //! | `table` | [`Delay`], [`Rule`], [`Table`] and its limits |
 //! | `refusal` | [`Refusal`] with its number and place, [`Field`] |
-//! | `calls` | [`read`], [`write`], [`analyse`], [`rate`], [`simulate`], [`report`], [`number`] |
+//! | `calls` | [`read`], [`write`], [`analyse`], [`rate`], [`simulate`], [`report`], [`number`], [`better`] |
 //! | [`face`] | the C calls as `include/period.h` declares them |
 //!
 //! The repository's root says how the archive is made: `rt staticlib cperiod`.
@@ -30,8 +30,8 @@ mod refusal;
 mod table;
 
 pub use calls::{
-    analyse, analyse_into, number, rate, read, report, simulate, simulate_into, write, write_into,
-    Analysis, Found, Range, Ratio,
+    analyse, analyse_into, better, number, rate, read, report, simulate, simulate_into, write,
+    write_into, Analysis, Found, Range, Ratio,
 };
 pub use refusal::{Field, Refusal};
 pub use table::{Delay, Rule, Table};

@@ -78,6 +78,7 @@ fn declarations() -> String {
             "number",
             format!("{bytes}, uint32_t, uint32_t"),
         ),
+        ("period_bids_result", "bids", format!("{bytes}, {bytes}")),
     ];
     let line = |(result, name, arguments): &(&str, &str, String)| {
         format!("extern {result} period_{name}({arguments});\n")
@@ -94,6 +95,7 @@ fn declared_as_in_the_header() {
         layout!(PeriodWritten, "period_count", refusal place count),
         layout!(PeriodRead, "period_table", refusal place n m),
         layout!(PeriodNumber, "period_number_result", refusal value place rest),
+        layout!(PeriodBids, "period_bids_result", refusal which place length),
     ];
     let (ours, body): (Vec<String>, Vec<String>) = layouts.into_iter().unzip();
     let text = format!(

@@ -304,6 +304,28 @@ static void see_bytes(void)
     same("number cut", "rest", x.rest, 0);
 }
 
+static void see_pair(const char *where, const struct lap *first, const struct lap *second, period_bids_result wanted)
+{
+    period_bids_result b = period_bids(first->file, first->file_len, second->file, second->file_len);
+    same(where, "bids refusal", b.refusal, wanted.refusal);
+    same(where, "bids which", b.which, wanted.which);
+    same(where, "bids place", b.place, wanted.place);
+    same(where, "bids length", b.length, wanted.length);
+}
+
+/* Two files: the lower high end, equal ends, one that cannot be analysed, and neither. */
+static void see_bids(void)
+{
+    see_pair("P2 and P1", &laps[1], &laps[0], (period_bids_result){0, 0, 0, 10});
+    see_pair("P3 and P1", &laps[2], &laps[0], (period_bids_result){0, 1, 0, 10});
+    see_pair("P4 and P5, equal ends", &laps[3], &laps[4], (period_bids_result){0, 0, 0, 16});
+    see_pair("P5 and P4, equal ends", &laps[4], &laps[3], (period_bids_result){0, 0, 0, 6});
+    see_pair("P3 and P7", &laps[2], &laps[6], (period_bids_result){0, 0, 0, 10});
+    see_pair("P8 and P3", &laps[7], &laps[2], (period_bids_result){0, 1, 0, 10});
+    see_pair("P7 and P8", &laps[6], &laps[7], (period_bids_result){PERIOD_LOOP, 0, 0, 0});
+    see_pair("P8 and P7", &laps[7], &laps[6], (period_bids_result){PERIOD_FLAT, 0, 0, 0});
+}
+
 int main(void)
 {
     for (size_t i = 0; i < COUNT(laps); i++) {
@@ -311,6 +333,7 @@ int main(void)
         see_report(&laps[i]);
     }
     see_refusals();
+    see_bids();
     see_limit();
     see_bytes();
     if (!bad)

@@ -6,8 +6,10 @@ ghost use lib.ListN.{length, take, drop};
 ghost use Rattle.text.specs.Text.{room};
 ghost use Rattle.period.specs.Promise.{refusedAnalysis, refusedRate};
 ghost use Rattle.cperiod.specs.Promise.{bitOf, flatAnalysis, AnalysisFrom, flatRate, RateFrom, WritingFrom, SimulationFrom, ReportFrom, numberIn};
+ghost use Rattle.cperiod.specs.Bids.{BidsFrom};
 use crate::Handed;
 use crate::PeriodAnalysis;
+use crate::PeriodBids;
 use crate::PeriodCount;
 use crate::PeriodNumber;
 use crate::PeriodRate;
@@ -205,5 +207,27 @@ pub fn number(bytes: &[u8], low: u32, high: u32) -> PeriodNumber
         value: value,
         place: place,
         rest: rest.len(),
+    }
+}
+
+fn wide(x: u8) -> u32
+    ensures { λ r. ⌜ r ≡ x ⌝ }
+{
+    x as u32
+}
+
+// The better of two files; a part cannot be handed to C, so which file it starts and its length are.
+pub fn chosen<'a>(first: &'a [u8], second: &'a [u8]) -> PeriodBids
+    ensures { λ r. ⌜ BidsFrom (first .entry) (second .entry) r ⌝ }
+{
+    let mut which = 0u8;
+    let mut refusal = 0u32;
+    let mut place = 0usize;
+    let part = bids::better(first, second, &mut which, &mut refusal, &mut place);
+    PeriodBids {
+        refusal: refusal,
+        which: wide(which),
+        place: place,
+        length: part.len(),
     }
 }

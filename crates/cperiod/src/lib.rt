@@ -6,6 +6,7 @@ ghost use mathlib.Core.Path.{_≡_};
 ghost use Prim.Native.Nat.{ℕ};
 ghost use Rattle.cperiod.specs.Columns.{columns, columnsOf, bytesOf, readInto, readAs};
 ghost use Rattle.cperiod.specs.Promise.{AnalysisFrom, RateFrom, WritingFrom, SimulationFrom, ReportFrom, numberIn};
+ghost use Rattle.cperiod.specs.Bids.{BidsFrom};
 use table::Table;
 
 // A table handed in: a refusal, its place and the empty table; or 0, 0 and the table.
@@ -72,6 +73,15 @@ pub struct PeriodNumber {
     pub value: u32,
     pub place: usize,
     pub rest: usize,
+}
+
+// The better of two files: which of the two, 0 or 1, and how many bytes of it from its start on. Refused: the first file's number and place, and 0, 0.
+#[repr(C)]
+pub struct PeriodBids {
+    pub refusal: u32,
+    pub which: u32,
+    pub place: usize,
+    pub length: usize,
 }
 
 // The analysis of a table handed in as columns.
@@ -211,4 +221,12 @@ pub extern "C" fn period_number(bytes: &[u8], low: u32, high: u32) -> PeriodNumb
     ensures { λ r. ⌜ r ≡ numberIn (now (bytes .entry)) low high ⌝ }
 {
     calls::number(bytes, low, high)
+}
+
+// The better of two rule files: the one with the lower high end.
+#[no_mangle]
+pub extern "C" fn period_bids<'a>(first: &'a [u8], second: &'a [u8]) -> PeriodBids
+    ensures { λ r. ⌜ BidsFrom (first .entry) (second .entry) r ⌝ }
+{
+    calls::chosen(first, second)
 }

@@ -14,7 +14,7 @@
 --   Holds r x           r holds the whole of x
 --   ReportOf s r        THE PROMISE of `report`: r holds the text for the file s
 --
--- Theorems: text-unique, report-unique (one outcome), report-first (the first bytes of a file decide), report-part (where the text stands).
+-- Theorems: text-unique, report-unique (one outcome), report-first (the first bytes of a file decide), holds-part, report-part (where the text stands).
 use mathlib.Core.Path.{_≡_, sym, ap, _∙_, subst}
 use mathlib.Core.Logic.{by-cases}
 use mathlib.Core.List.{List, [], _∷_, _++_}
@@ -131,10 +131,13 @@ pub report-first : (s : List ℕ) (k : ℕ) → Bytes s → longest + 1 ≤ k �
 report-first s k b h r a =
     record { text = a .text; is-text = subst (λ (f : FileRead). ReadText f (a .text)) (first-bytes s k b h) (a .is-text); is-held = a .is-held }
 
+-- what is held is the first `len` bytes, and these are there
+pub holds-part : (r : Text) (x : List ℕ) → Holds r x → (r .len ≤ length (r .bytes)) × (r .len ≡ length (take (r .len) (r .bytes))) × (take (r .len) (r .bytes) ≡ x)
+holds-part r x held =
+    let zeros = replicate {A = ℕ} (room - length x) 0 in
+    subst (λ (h : Text). (h .len ≤ length (h .bytes)) × (h .len ≡ length (take (h .len) (h .bytes))) × (take (h .len) (h .bytes) ≡ x)) (sym (held .result))
+    (omega (arith, length-append x zeros), sym (ap length (take-append-seam x zeros)), take-append-seam x zeros)
+
 -- THE TEXT IS THE FIRST `len` BYTES, and these are there
 pub report-part : (s : List ℕ) (r : Text) (a : ReportOf s r) → (r .len ≤ length (r .bytes)) × (r .len ≡ length (take (r .len) (r .bytes))) × (take (r .len) (r .bytes) ≡ a .text)
-report-part s r a =
-    let x = a .text in
-    let zeros = replicate {A = ℕ} (room - length x) 0 in
-    subst (λ (h : Text). (h .len ≤ length (h .bytes)) × (h .len ≡ length (take (h .len) (h .bytes))) × (take (h .len) (h .bytes) ≡ x)) (sym (a .is-held .result))
-    (omega (arith, length-append x zeros), sym (ap length (take-append-seam x zeros)), take-append-seam x zeros)
+report-part s r a = holds-part r (a .text) (a .is-held)

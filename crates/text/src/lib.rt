@@ -1,9 +1,11 @@
-// The text that the program prints for the bytes of a rule file.
+// The texts that the programs print: for the bytes of a rule file, and for those of two.
 mod lines;
+mod pair;
 mod put;
 
 ghost use Rattle.text.specs.Text.{refusedLine, Holds, ReportOf};
 ghost use Rattle.text.specs.Made.{TableReport};
+ghost use Rattle.text.specs.Pair.{PairOf};
 use table::Table;
 
 // A text: its length and its bytes, zeros after them. No text takes all the room.
@@ -68,4 +70,17 @@ pub fn report(bytes: &[u8]) -> Text
     }
     let t = file.table;
     judged(t)
+}
+
+// The whole text for two files: the ends or the refusal of each, and which is the better.
+pub fn side_by_side(first: &[u8], second: &[u8]) -> Text
+    ensures { λ r. ⌜ PairOf (now (first .entry)) (now (second .entry)) r ⌝ }
+{
+    let laid = bids::side_by_side(first, second);
+    let mut bytes = [0u8; Text::ROOM];
+    let len = pair::lines(laid, &mut bytes, 0);
+    Text {
+        len: len,
+        bytes: bytes,
+    }
 }

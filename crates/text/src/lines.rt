@@ -38,7 +38,7 @@ pub fn refused_line(refusal: u32, place: usize, out: &mut [u8], at: usize) -> us
     put::byte(b'\n', out, d)
 }
 
-fn exact_line(end: End, out: &mut [u8], at: usize) -> usize
+pub fn exact_line(end: End, out: &mut [u8], at: usize) -> usize
     ensures { λ r. ⌜ Puts (exactLine (end .p) (end .q)) (now (out .entry)) at (now (out .exit)) r × (r ≤ at + 99) ⌝ }
 {
     let a = put::word(b"period ", out, at);
@@ -47,7 +47,7 @@ fn exact_line(end: End, out: &mut [u8], at: usize) -> usize
     put::byte(b'\n', out, c)
 }
 
-fn range_line(low: End, high: End, out: &mut [u8], at: usize) -> usize
+pub fn range_line(low: End, high: End, out: &mut [u8], at: usize) -> usize
     ensures { λ r. ⌜ Puts (rangeLine (low .p) (low .q) (high .p) (high .q)) (now (out .entry)) at (now (out .exit)) r × (r ≤ at + 99) ⌝ }
 {
     let a = put::word(b"period from ", out, at);

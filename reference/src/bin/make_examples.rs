@@ -1,6 +1,7 @@
 //! Writes the folder of examples: for each a rule file (.rules), its text form
 //! with a line that says what it shows (.txt), and what `report` prints
-//! (.expected).
+//! (.expected). In `bids/`, a folder for each pair of files that `bids` lays
+//! side by side: both, what they show (about.txt), and what it prints (expected).
 //!
 //! Run in the package's folder: cargo run --release --bin make_examples
 
@@ -8,6 +9,7 @@ use std::fs;
 use std::io;
 use std::path::Path;
 
+use reference::bids;
 use reference::file;
 use reference::notation;
 use reference::report::report;
@@ -98,6 +100,46 @@ const PUBLISHED: [(&str, &str, &str); 8] = [
     ),
 ];
 
+/// Name, what it shows, the two tables; a tail is put after one that ends in `tail`.
+const PAIRS: [(&str, &str, &str, &str); 6] = [
+    (
+        "first-better",
+        "Two exact answers; 7/2 is below 4/1, by cross products",
+        "n 2: 0>1/0/3, 1>0/2/4",
+        "n 1: 0>0/1/4",
+    ),
+    (
+        "second-better",
+        "Whole division would call 7/2 and 3/1 equal; the second is lower",
+        "n 2: 0>1/0/3, 1>0/2/4",
+        "n 1: 0>0/1/3",
+    ),
+    (
+        "equal-ends",
+        "Equal high ends, from different rules: the first",
+        "n 2: 0>1/0/3, 1>0/1/4",
+        "n 2: 0>1/0/5, 1>0/2/9, 1>1/1/6",
+    ),
+    (
+        "only-second",
+        "The first has bytes after its last rule; the second, a blank and all, comes back",
+        "n 1: 0>0/1/3 tail",
+        "n 2: 0>1/0/3, 1>0/1/?",
+    ),
+    (
+        "neither",
+        "A loop without a turn, and no loop: neither can be analysed",
+        "n 2: 0>0/1/1, 1>1/0/2",
+        "n 2: 0>1/1/5",
+    ),
+    (
+        "exact-against-range",
+        "The range has the lower low end and the higher high end: the exact one is better",
+        "n 2: 0>1/0/3, 1>0/1/?",
+        "n 2: 0>1/0/3, 1>0/1/4",
+    ),
+];
+
 fn main() -> io::Result<()> {
     let folder = Path::new("../examples");
     fs::create_dir_all(folder)?;
@@ -116,7 +158,29 @@ fn main() -> io::Result<()> {
         );
         write_example(folder, name, &heading, &case.table)?;
     }
+    for (name, shows, first, second) in PAIRS {
+        write_pair(&folder.join("bids").join(name), shows, first, second)?;
+    }
     Ok(())
+}
+
+fn write_pair(folder: &Path, shows: &str, first: &str, second: &str) -> io::Result<()> {
+    fs::create_dir_all(folder)?;
+    let (one, two) = (with_tail(first), with_tail(second));
+    fs::write(folder.join("first.rules"), &one)?;
+    fs::write(folder.join("second.rules"), &two)?;
+    let about = format!("# {shows}.\nfirst {first}\nsecond {second}\n");
+    fs::write(folder.join("about.txt"), about)?;
+    fs::write(folder.join("expected"), bids::text(&one, &two))
+}
+
+/// The file of a table in notation; a byte too many where the word `tail` follows.
+fn with_tail(text: &str) -> Vec<u8> {
+    let sound = text.strip_suffix(" tail");
+    let table = notation::parse(sound.unwrap_or(text)).expect("the notation is sound");
+    let mut bytes = file::write(&table);
+    bytes.extend(sound.map(|_| 0));
+    bytes
 }
 
 fn write_example(folder: &Path, name: &str, heading: &str, table: &Table) -> io::Result<()> {

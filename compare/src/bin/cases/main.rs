@@ -22,7 +22,7 @@ mod text;
 
 use calls::{Call, FileCall};
 use expected::Second;
-use listed::{DAMAGED, DAMAGED_CALLS, FILES, LIMITS, LIMIT_CALLS, LIMIT_FILE_CALLS, TABLES};
+use listed::{BIDS, DAMAGED, DAMAGED_CALLS, FILES, LIMITS, LIMIT_CALLS, LIMIT_FILE_CALLS, TABLES};
 use product::Columns;
 use reference::file;
 use reference::table::Table;
@@ -69,6 +69,9 @@ fn main() {
     // The published cases with delay ranges belong to the second edition, and `vectors.txt` leaves them out.
     for case in vectors::parse(PUBLISHED) {
         published(&mut cases, &case);
+    }
+    for (name, first, second) in BIDS {
+        cases.bids(name, [&bytes_of(first), &bytes_of(second)]);
     }
     cases.finish();
 }
@@ -161,6 +164,16 @@ impl Cases {
         let theirs = expected::file_call(bytes, &second, asked);
         let n = table.as_ref().map_or(0, |table| table.n as usize);
         self.hold(name, text(&ours, n, call), text(&theirs, n, call));
+    }
+
+    fn bids(&mut self, name: &str, files: [&[u8]; 2]) {
+        let ours = product::bids(files);
+        let theirs = expected::bids(files, files.map(expected::ends));
+        self.hold(
+            &format!("bids, {name}"),
+            text(&ours, 0, "bids"),
+            text(&theirs, 0, "bids"),
+        );
     }
 
     fn hold(&mut self, name: &str, ours: String, theirs: String) {

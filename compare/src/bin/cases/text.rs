@@ -92,6 +92,7 @@ pub fn text(outcome: &Outcome, n: usize, call: &str) -> String {
         "simulate" => format!("times {}", list(lists[0])),
         "write" => format!("bytes {}", hexadecimal(lists[0])),
         "read" => rules(numbers[2], &lists),
+        "bids" => format!("which {}, length {}", numbers[1], numbers[3]),
         _ => format!("value {}, rest {}", numbers[1], numbers[3]),
     };
     if !refused && numbers[place] != 0 {
