@@ -8,7 +8,7 @@
 --   four-codes, drop-on, drop-fits                 bytes one after the other
 --   put-fits, put-rule, put-head, put-turn         what writing a number, a rule, the head and one more rule leave
 --   count-head, count-turn                         the same of counting
---   judged-within, wrote-range, wrote-room, wrote  each case of what writing promises
+--   judged-within, wrote-range, length-left, wrote   each case of what writing promises
 use Prim.Native.Nat.{ℕ, zero, suc, _+_, _-_, _≤_, _<_}
 use mathlib.Core.Path.{_≡_, refl, ap, sym, _∙_, subst, subst⁻¹}
 use mathlib.Core.Logic.{_⊎_, inl, inr, by-cases, ⊎-elim}
