@@ -127,29 +127,31 @@ TABLES = [
 ]
 
 FILES = """\
-worked P10, 80: refused 1 at 0
-worked P10, 80 00: refused 2 at 0
-worked P10, 80 80 80: refused 2 at 0
+worked P10, 80: refused 1 at 1
+worked P10, 80 00: refused 2 at 1
+worked P10, 80 80 80: refused 2 at 2
 worked P10, 00: refused 3 at 0
 worked P10, 01 00 00: refused 4 at 2
+worked P10, 80 80 00: refused 2 at 2
+worked P10, 01 80: refused 1 at 2
 no bytes: refused 1 at 0
 cut before m: refused 1 at 1
-cut inside the third group: refused 1 at 1
+cut inside the third group: refused 1 at 3
 cut before the delay: refused 1 at 5
-cut inside the delay: refused 1 at 5
-a fourth group: refused 2 at 1
-third group zero: refused 2 at 1
+cut inside the delay: refused 1 at 7
+a fourth group: refused 2 at 3
+third group zero: refused 2 at 3
 tail after a rule: refused 4 at 6
-one number, 1 before 3: refused 1 at 0
-one number, 2 before 3: refused 2 at 0
-one number, 2 before 3 by zero: refused 2 at 0
+one number, 1 before 3: refused 1 at 2
+one number, 2 before 3: refused 2 at 2
+one number, 2 before 3 by zero: refused 2 at 1
 3 in n before 1 in m: refused 3 at 0
 3 in n before 2 in m: refused 3 at 0
 3 in n before 3 in m: refused 3 at 0
-2 in n before 1 in m: refused 2 at 0
-2 in n before 2 in m: refused 2 at 0
-2 in n before 3 in m: refused 2 at 0
-2 before 4: refused 2 at 1
+2 in n before 1 in m: refused 2 at 1
+2 in n before 2 in m: refused 2 at 1
+2 in n before 3 in m: refused 2 at 1
+2 before 4: refused 2 at 2
 3 before 4: refused 3 at 4
 3 in a source before 1 in its target: refused 3 at 2
 columns exact: n 2: 0>1/0/3, 1>0/1/?
@@ -168,10 +170,10 @@ number, lowest: value 5, rest 0
 number, below lowest: refused 3 at 0
 number, zero: value 0, rest 0
 number, no bytes: refused 1 at 0
-number, 1 before 3: refused 1 at 0
-number, 2 before 3: refused 2 at 0
-number, a fourth group: refused 2 at 0
-number, last group zero: refused 2 at 0"""
+number, 1 before 3: refused 1 at 1
+number, 2 before 3: refused 2 at 1
+number, a fourth group: refused 2 at 2
+number, last group zero: refused 2 at 2"""
 
 
 # Two files side by side. 1000000/15 is 66666.66.., 933333/14 is 66666.64..; the file with a blank at offset 2 ends at 500000/1.
@@ -198,7 +200,7 @@ BIDS = [
 ]
 
 # A file that reading refuses, whatever the call would say.
-DAMAGED = ["refused 1 at 7", "refused 2 at 8", "refused 3 at 6", "refused 4 at 6"]
+DAMAGED = ["refused 1 at 7", "refused 2 at 9", "refused 3 at 6", "refused 4 at 6"]
 
 
 def damaged():

@@ -23,7 +23,7 @@
  * n is 0, m is 1, rule r's source, target, offset and delay are 2 + 4r to 5 + 4r. The earliest such field is named.
  *
  * A TABLE AS A FILE. The bytes of a rule file; it is refused PERIOD_CUT, PERIOD_LONG, PERIOD_RANGE or PERIOD_TAIL where it is no such file,
- * before anything else, with the place of the byte.
+ * before anything else, with the place of the byte, or the file's length where a byte is missing.
  */
 #ifndef PERIOD_H
 #define PERIOD_H
@@ -38,8 +38,9 @@ extern "C" {
 /* Numbers of refusal; in brackets what `place` is. */
 enum period_refusal {
     PERIOD_OK = 0,
-    PERIOD_CUT = 1,      /* the file ends inside or before a number (the number's first byte) */
-    PERIOD_LONG = 2,     /* a number not written with the fewest groups, or with more than three (its first byte) */
+    PERIOD_CUT = 1,      /* the file ends inside or before a number (the file's length) */
+    PERIOD_LONG = 2,     /* a number not written with the fewest groups, or with more than three (the byte that breaks the rule:
+                          * the third of the number if its top bit is set, otherwise the last, a group of zero) */
     PERIOD_RANGE = 3,    /* a value outside its limits (in a file: the number's first byte; of columns: the field in file order) */
     PERIOD_TAIL = 4,     /* bytes after the last rule (the first such byte) */
     PERIOD_LOOP = 5,     /* a loop with offset sum 0 (the lowest transition on any such loop) */
@@ -199,7 +200,7 @@ period_status period_file_simulate(
 period_count period_report(const uint8_t *bytes, size_t bytes_len, uint8_t *out, size_t out_len);
 
 /* One number in groups of seven bits at the front of the bytes: its value and how many bytes are left after it.
- * Refused, in this order: 1, 2, 3 (not from low to high); then value and rest are 0. */
+ * Refused, in this order: 1, 2, 3 (not from low to high); then value and rest are 0, and places count from the first of the bytes. */
 period_number_result period_number(const uint8_t *bytes, size_t bytes_len, uint32_t low, uint32_t high);
 
 /* ---- two files ---- */

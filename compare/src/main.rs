@@ -102,7 +102,15 @@ fn worked(compare: &mut Compare, _count: u64) {
         compare.table(&mut rng, &table);
         compare.safe(&table, 3);
     }
-    let files: [&[u8]; 5] = [&[0x80], &[0x80, 0], &[0x80; 3], &[0], &[1, 0, 0]];
+    let files: [&[u8]; 7] = [
+        &[0x80],
+        &[0x80, 0],
+        &[0x80; 3],
+        &[0],
+        &[1, 0, 0],
+        &[0x80, 0x80, 0],
+        &[1, 0x80],
+    ];
     for bytes in files {
         let mut rng = seeded(compare, 0, 10);
         compare.file(&mut rng, bytes);

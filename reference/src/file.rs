@@ -7,37 +7,26 @@ use crate::table::{Delay, Rule, Table};
 /// A number has at most this many groups of seven bits.
 const MOST_GROUPS: usize = 3;
 
-/// The place of CUT. The first edition names the number's first byte and has no
-/// use for the length of the bytes.
-fn cut_place(first_byte: usize, _length: usize) -> usize {
-    first_byte
-}
-
-/// The place of LONG. The first edition names the number's first byte and has
-/// no use for the byte that breaks the rule.
-fn long_place(first_byte: usize, _wrong_byte: usize) -> usize {
-    first_byte
-}
-
 /// Reads one number from the start of `bytes`: its value and the unread part.
-/// Places count from the start of `bytes`.
+/// Places count from the start of `bytes`: CUT is at their end, where the
+/// missing one would be, LONG at the byte that breaks the rule.
 pub fn read_number(bytes: &[u8], lowest: u32, highest: u32) -> Result<(u32, &[u8]), Refusal> {
     let mut value = 0u32;
     for group in 0..MOST_GROUPS {
         let byte = match bytes.get(group) {
             Some(&byte) => byte,
-            None => return Err(refusal(CUT, cut_place(0, bytes.len()))),
+            None => return Err(refusal(CUT, bytes.len())),
         };
         value += ((byte & 0x7f) as u32) << (7 * group);
         if byte & 0x80 == 0 {
             // A last group of zero is wrong unless it is the only one.
-            demand(group == 0 || byte != 0, LONG, long_place(0, group))?;
+            demand(group == 0 || byte != 0, LONG, group)?;
             demand((lowest..=highest).contains(&value), RANGE, 0)?;
             return Ok((value, &bytes[group + 1..]));
         }
     }
     // The third byte promised another group.
-    Err(refusal(LONG, long_place(0, MOST_GROUPS - 1)))
+    Err(refusal(LONG, MOST_GROUPS - 1))
 }
 
 /// The bytes still to be read, and how many were read before them.

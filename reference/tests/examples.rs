@@ -1,4 +1,5 @@
 //! The folder of examples: each rule file, its text form and its report agree.
+//! Bytes that are no rule file have no text form, only a remark.
 
 use std::fs;
 use std::path::Path;
@@ -15,12 +16,12 @@ fn examples_agree() {
             let bytes = fs::read(&path).unwrap();
             let text = fs::read_to_string(path.with_extension("txt")).unwrap();
             let expected = fs::read_to_string(path.with_extension("expected")).unwrap();
-            assert_eq!(file::read(&bytes).unwrap(), notation::parse(&text).unwrap());
+            assert_eq!(file::read(&bytes).ok(), notation::parse(&text).ok());
             assert_eq!(report(&bytes), expected, "{path:?}");
             count += 1;
         }
     }
-    assert!(count >= 16, "some examples were lost");
+    assert!(count >= 18, "some examples were lost");
 }
 
 #[test]

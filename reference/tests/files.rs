@@ -55,29 +55,18 @@ fn any_file() {
     assert!(seen.iter().all(|&count| count > 500), "{seen:?}");
 }
 
-/// A cut file is refused by 1 at the number that the cut hit.
+/// A cut file is refused by 1 at its length.
 #[test]
 fn every_cut() {
     let mut rng = Rng::new(23);
     for _ in 0..300 {
         let table = gen::table(&mut rng, Size::SMALL);
         let sound = write(&table);
-        let starts = number_starts(&sound);
         for cut in gen::every_cut(&sound) {
-            let place = starts.iter().filter(|&&start| start <= cut.len()).max();
-            let place = *place.unwrap() as u64;
+            let place = cut.len() as u64;
             assert_eq!(read(&cut), Err(Refusal { number: CUT, place }));
         }
     }
-}
-
-/// A number starts after each byte with its top bit clear.
-fn number_starts(bytes: &[u8]) -> Vec<usize> {
-    let ends = (0..bytes.len()).filter(|&at| bytes[at] < 0x80);
-    let mut starts = vec![0];
-    starts.extend(ends.map(|end| end + 1));
-    starts.pop();
-    starts
 }
 
 /// Every string of one to three bytes, read as a number, against the wording.
@@ -102,22 +91,28 @@ fn every_number() {
 
 /// The same by counting the leading bytes with their top bit set.
 fn number_by_words(bytes: &[u8], lowest: u32, highest: u32) -> Result<(u32, usize), Refusal> {
-    let fault = |number| Err(Refusal { number, place: 0 });
+    let fault = |number, place| {
+        let place = place as u64;
+        Err(Refusal { number, place })
+    };
     let more = bytes
         .iter()
         .take(3)
         .take_while(|&&byte| byte >= 0x80)
         .count();
     if more == bytes.len() && more < 3 {
-        return fault(CUT);
+        return fault(CUT, bytes.len());
     }
-    if more == 3 || (more > 0 && bytes[more] == 0) {
-        return fault(LONG);
+    if more == 3 {
+        return fault(LONG, 2);
+    }
+    if more > 0 && bytes[more] == 0 {
+        return fault(LONG, more);
     }
     let groups = bytes[..=more].iter().rev();
     let value = groups.fold(0, |sum, &byte| sum * 128 + (byte % 128) as u32);
     if value < lowest || value > highest {
-        return fault(RANGE);
+        return fault(RANGE, 0);
     }
     Ok((value, bytes.len() - more - 1))
 }

@@ -100,11 +100,13 @@ fn p9() {
 #[test]
 fn p10() {
     let cases = [
-        ("80", 1, 0),
-        ("80 00", 2, 0),
-        ("80 80 80", 2, 0),
+        ("80", 1, 1),
+        ("80 00", 2, 1),
+        ("80 80 80", 2, 2),
         ("00", 3, 0),
         ("01 00 00", 4, 2),
+        ("80 80 00", 2, 2),
+        ("01 80", 1, 2),
     ];
     for (text, number, place) in cases {
         assert_eq!(file::read(&bytes(text)), refused(number, place), "{text}");
@@ -209,8 +211,8 @@ fn limits_of_files() {
         delay("80 80 01").unwrap().rules[0].delay,
         Delay::Known(16_383)
     );
-    assert_eq!(delay("80 80"), refused(1, 5));
-    assert_eq!(delay("80 80 00"), refused(2, 5));
+    assert_eq!(delay("80 80"), refused(1, 7));
+    assert_eq!(delay("80 80 00"), refused(2, 7));
 }
 
 #[test]

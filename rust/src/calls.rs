@@ -62,7 +62,7 @@ fn ratio(p: u64, q: u64) -> Ratio {
 /// let table = Table::new(2).rule(0, 1, 0, Delay::Known(3)).rule(1, 0, 1, Delay::Known(4));
 /// assert_eq!(read(&[2, 2, 0, 1, 0, 4, 1, 0, 1, 5]), Ok(table));
 /// assert_eq!(read(&[2, 2, 0, 1, 0, 4, 1, 0, 1]), Err(Refusal::Cut { at: 9 }));
-/// assert_eq!(read(&[0x80, 0]), Err(Refusal::Long { at: 0 }));
+/// assert_eq!(read(&[0x80, 0]), Err(Refusal::Long { at: 1 }));
 /// ```
 pub fn read(bytes: &[u8]) -> Result<Table, Refusal> {
     let mut t = Table::room();

@@ -5,9 +5,10 @@ use std::fmt;
 /// A refusal with its place. The numbers are those that the program `report` prints.
 #[derive(Clone, Copy, Debug, PartialEq, Eq, Hash)]
 pub enum Refusal {
-    /// 1: the file ends inside or before the number whose first byte is `at`.
+    /// 1: the file ends inside or before a number; `at` is its length.
     Cut { at: usize },
-    /// 2: the number whose first byte is `at` has too many groups, or ends in a group of zero.
+    /// 2: a number has too many groups, or ends in a group of zero; `at` is the byte that breaks the rule: its third
+    /// byte where the top bit of that is set, otherwise its last, zero group.
     Long { at: usize },
     /// 3: a value outside its limits. In a file the place is the number's first byte; in a table it is the
     /// field, see [`Field::at`].

@@ -276,7 +276,8 @@ static void see_bytes(void)
         uint8_t bytes[3];
         uint32_t refusal;
         size_t place;
-    } files[] = {{1, {0x80}, 1, 0}, {2, {0x80, 0x00}, 2, 0}, {3, {0x80, 0x80, 0x80}, 2, 0}, {1, {0x00}, 3, 0}, {3, {0x01, 0x00, 0x00}, 4, 2}};
+    } files[] = {{1, {0x80}, 1, 1}, {2, {0x80, 0x00}, 2, 1}, {3, {0x80, 0x80, 0x80}, 2, 2}, {1, {0x00}, 3, 0}, {3, {0x01, 0x00, 0x00}, 4, 2},
+                 {3, {0x80, 0x80, 0x00}, 2, 2}, {2, {0x01, 0x80}, 1, 2}};
     static const uint8_t five[] = {5, 5}, third[] = {0x80, 0x80, 0x01, 9};
     uint64_t schedule[1] = {77};
     uint32_t low[1] = {77}, high[1] = {77};
@@ -301,6 +302,7 @@ static void see_bytes(void)
     same("number below 6", "rest", x.rest, 0);
     x = period_number(third, 2, 0, 9);
     same("number cut", "refusal", x.refusal, PERIOD_CUT);
+    same("number cut", "place", x.place, 2);
     same("number cut", "rest", x.rest, 0);
 }
 

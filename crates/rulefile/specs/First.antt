@@ -13,6 +13,7 @@ use lib.Dec.{ltb}
 use Rattle.sevens.specs.declared.Raw.{Raw}
 use Rattle.sevens.specs.declared.Raw.the-variants.{Cut, Long, Value}
 use Rattle.sevens.specs.Sevens.{pick, followed, rawOf, cutPlace, longPlace, Bytes}
+use Rattle.sevens.specs.Laws.{cut-take, long-take}
 use Rattle.table.specs.Limits.{minN, maxN, maxM, maxOffset, maxDelay}
 use Rattle.table.specs.Form.{withRule}
 use Rattle.table.specs.declared.Table.{Table}
@@ -38,15 +39,6 @@ raw-take (suc g) zero s h = absurd (omega arith)
 raw-take (suc g) (suc k) [] h = refl
 raw-take (suc g) (suc k) (b ∷ s) h = ap (λ (x : Raw). pick (ltb b 128) (Value b 1) (followed b x)) (raw-take g k s (omega arith))
 
--- so are the places of refusals 1 and 2: the only law here that looks inside them
-cut-take : (k : ℕ) (s : List ℕ) → groups ≤ k → rawOf groups s ≡ Cut → cutPlace groups (take k s) ≡ cutPlace groups s
-unfolding cutPlace
-cut-take k s h e = refl
-
-long-take : (k : ℕ) (s : List ℕ) → groups ≤ k → rawOf groups s ≡ Long → longPlace groups (take k s) ≡ longPlace groups s
-unfolding longPlace
-long-take k s h e = refl
-
 -- a number is the same where its three bytes are left
 num-take : (s : List ℕ) (k at low high : ℕ) → at ≤ length s → at + groups ≤ k → numAt (take k s) at low high ≡ numAt s at low high
 num-take s k at low high h f = at-raw (rawOf groups (drop at s)) refl
@@ -60,11 +52,11 @@ num-take s k at low high h f = at-raw (rawOf groups (drop at s)) refl
     at-raw : (x : Raw) → rawOf groups (drop at s) ≡ x → numAt (take k s) at low high ≡ numAt s at low high
     at-raw Cut e =
         num-cut (take k s) at low high (same ∙ e)
-        ∙ ap (λ p. numBad 1 (at + p)) (ap (cutPlace groups) part ∙ cut-take (k - at) (drop at s) (omega arith) e)
+        ∙ ap (λ p. numBad 1 (at + p)) (ap (cutPlace groups) part ∙ cut-take groups (k - at) (drop at s) (omega arith) e)
         ∙ sym (num-cut s at low high e)
     at-raw Long e =
         num-long (take k s) at low high (same ∙ e)
-        ∙ ap (λ p. numBad 2 (at + p)) (ap (longPlace groups) part ∙ long-take (k - at) (drop at s) (omega arith) e)
+        ∙ ap (λ p. numBad 2 (at + p)) (ap (longPlace groups) part ∙ long-take groups (k - at) (drop at s) (omega arith) e)
         ∙ sym (num-long s at low high e)
     at-raw (Value v n) e =
         by-cases (decLt v low)

@@ -6,3 +6,4 @@ pub mod Coded
 pub mod RoundTrip
 pub mod First
 pub mod Order
+pub mod Places

@@ -8,7 +8,7 @@
 --   four-codes, drop-on, drop-fits                 bytes one after the other
 --   put-fits, put-rule, put-head, put-turn         what writing a number, a rule, the head and one more rule leave
 --   count-head, count-turn                         the same of counting
---   judged-within, wrote-range, wrote-room, wrote  each case of what writing promises
+--   judged-within, wrote-range, length-left, wrote   each case of what writing promises
 use Prim.Native.Nat.{ℕ, zero, suc, _+_, _-_, _≤_, _<_}
 use mathlib.Core.Path.{_≡_, refl, ap, sym, _∙_, subst, subst⁻¹}
 use mathlib.Core.Logic.{_⊎_, inl, inr, by-cases, ⊎-elim}
@@ -32,6 +32,7 @@ use Rattle.table.specs.declared.Table.{Table}
 use Rattle.rulefile.specs.declared.Num.{Num}
 use Rattle.rulefile.specs.declared.RuleRead.{RuleRead}
 use Rattle.rulefile.specs.declared.FileRead.{FileRead}
+use Rattle.rulefile.specs.declared.Written.{Written}
 use Rattle.rulefile.specs.File.{groups, numAt, numFrom, numBad, numGood, andThen, delayCode, delayOf, ruleBytes, rulesBytes, fileOf, ruleGood, ruleAt, refusedRead, acceptedRead, rulesFrom, refusedWrite, writtenAs, Writes}
 
 -- ---- a number at a place
@@ -304,17 +305,16 @@ wrote-range t out x (inr b) h = record {
   written = λ w _. absurd (within-not-bad t (x .place) w (b .0));
 }
 
-pub wrote-room : (t : Table) (out : List ℕ) (count : ℕ) → Within t → count ≡ length (fileOf t) → length out < count → Writes t out (refusedWrite 8 count) out
-wrote-room t out count w e h = record {
-  range = λ k f. absurd (within-not-bad t k w f);
-  room = λ _ _. (ap (refusedWrite 8) e, refl);
-  written = λ _ g. absurd (omega arith);
-}
+pub length-left : (out after xs : List ℕ) → after ≡ sets out 0 xs → length after ≡ length out
+length-left out after xs e = ap length e ∙ length-sets out 0 xs
 
-pub wrote : (t : Table) (out after : List ℕ) (count : ℕ) → Within t → count ≡ length (fileOf t) → count ≤ length out → after ≡ sets out 0 (fileOf t)
-    → Writes t out (writtenAs count) after
-wrote t out after count w e h f = record {
+-- what was answered, and what is left in the buffer, by the room that there was
+pub wrote : (t : Table) (out after : List ℕ) (count : ℕ) (x : Written) → Within t → count ≡ length (fileOf t)
+    → (length out < count → x ≡ refusedWrite 8 count) × (count ≤ length out → x ≡ writtenAs count)
+    → ((count ≤ length out) × (after ≡ sets out 0 (fileOf t))) ⊎ ((length out < count) × (after ≡ out))
+    → Writes t out x after
+wrote t out after count x w e answer left = record {
   range = λ k g. absurd (within-not-bad t k w g);
-  room = λ _ g. absurd (omega arith);
-  written = λ _ g. (ap writtenAs e, f ∙ sets-front out (fileOf t) g);
+  room = λ _ g. (answer .0 (omega arith) ∙ ap (refusedWrite 8) e, ⊎-elim (λ y. absurd (omega arith)) (λ y. y .1) left);
+  written = λ _ g. (answer .1 (omega arith) ∙ ap writtenAs e, ⊎-elim (λ y. y .1 ∙ sets-front out (fileOf t) g) (λ y. absurd (omega arith)) left);
 }

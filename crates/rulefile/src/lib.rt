@@ -7,7 +7,7 @@ ghost use Rattle.sevens.specs.Sevens.{codeLength};
 ghost use Rattle.table.specs.Limits.{minN, maxN, maxM};
 ghost use Rattle.table.specs.Form.{sized};
 ghost use Rattle.table.specs.Fields.{Within};
-ghost use Rattle.rulefile.specs.File.{delayCode, ruleBytes, rulesBytes, fileOf, numAt, delayOf, ruleBad, ruleAt, refusedRead, rulesFrom, readOf, Writes};
+ghost use Rattle.rulefile.specs.File.{delayCode, ruleBytes, rulesBytes, fileOf, numAt, delayOf, ruleBad, ruleAt, refusedRead, rulesFrom, readOf, refusedWrite, writtenAs, Writes};
 use table::Delay;
 use table::Rule;
 use table::Table;
@@ -309,6 +309,24 @@ fn put_file(t: Table, out: &mut [u8])
     put_rules(t, out, b);
 }
 
+// What writing hands back: the count of bytes, or refused 8 with the length needed.
+fn answer(count: usize, room: usize) -> Written
+    ensures { λ r. ⌜ (room < count → r ≡ refusedWrite 8 count) × (count ≤ room → r ≡ writtenAs count) ⌝ }
+{
+    if room < count {
+        return Written {
+            refusal: ROOM,
+            place: count,
+            count: 0,
+        };
+    }
+    Written {
+        refusal: 0,
+        place: 0,
+        count: count,
+    }
+}
+
 // The file of a table, into the front of a lent buffer.
 pub fn write(t: Table, out: &mut [u8]) -> Written
     ensures { λ r. ⌜ Writes t (now (out .entry)) r (now (out .exit)) ⌝ }
@@ -322,17 +340,9 @@ pub fn write(t: Table, out: &mut [u8]) -> Written
         };
     }
     let count = file_length(t);
-    if out.len() < count {
-        return Written {
-            refusal: ROOM,
-            place: count,
-            count: 0,
-        };
+    let room = out.len();
+    if count <= room {
+        put_file(t, out);
     }
-    put_file(t, out);
-    Written {
-        refusal: 0,
-        place: 0,
-        count: count,
-    }
+    answer(count, room)
 }

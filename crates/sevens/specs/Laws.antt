@@ -14,6 +14,9 @@
 --   number-refused                  refused, there is no value and no rest
 --   number-within, number-most      accepted, a number is within its limits; no value is above the highest
 --   cut-place, long-place, number-place   a place is not past the bytes
+--   cut-take, long-take             nor does it depend on what follows the groups
+--   cut-length                      WHERE THE MISSING BYTE WOULD BE is where refusal 1 stands
+--   long-stop, long-byte            THE BYTE THAT BREAKS THE RULE is where refusal 2 stands
 --   number-rest, number-next        the rest is not longer than the bytes; accepted, it is shorter and their end
 --   read-one                        ONLY ONE: what reading promises has one outcome
 -- Codes
@@ -37,11 +40,12 @@ use native.Mathlib.Decide.{decLt}
 use native.Mathlib.Numerals.{add-one}
 use native.Mathlib.Nat.{pow-suc, pow-zero, one-le-pow, add-zero}
 use borrow.Author.Tests.{le-ltb, lt-ltb, le-leb, lt-leb}
-use lib.ListN.{length, getD, drop, take, set, length-drop, length-append, take-append-drop}
+use lib.ListN.{length, getD, drop, take, set, length-drop, length-take, length-append, take-append-drop}
 use lib.Seq.{sets, length-sets, sets-eq, drop-append-seam, getD-drop}
+use lib.Dec.{ltb}
 use Rattle.sevens.specs.declared.Raw.{Raw}
 use Rattle.sevens.specs.declared.Raw.the-variants.{Cut, Long, Value}
-use Rattle.sevens.specs.Sevens.{followed, rawOf, cutPlace, longPlace, Answer, refused, accepted, limited, numberOf, Read, codeIn, codeOf, codeLength, Put, putOf, Bytes}
+use Rattle.sevens.specs.Sevens.{pick, followed, rawOf, cutPlace, marked, longPlace, Answer, refused, accepted, limited, numberOf, Read, codeIn, codeOf, codeLength, Put, putOf, Bytes}
 
 -- ---- a number as written
 
@@ -185,14 +189,69 @@ long-raw g s h = ⊎-elim (follow-long g s) (λ f. zero-long g (f .0) s (f .1) (
 
 -- ---- a number within limits
 
--- all that is known of the two places: nobody else looks inside them
-pub cut-place : (g : ℕ) (s : List ℕ) → cutPlace g s ≤ length s
+-- all that others know of the two places: nobody else looks inside them
+
+-- WHERE THE MISSING BYTE WOULD BE is where refusal 1 stands
+pub cut-length : (g : ℕ) (s : List ℕ) → cutPlace g s ≡ length s
 unfolding cutPlace
-cut-place g s = omega arith
+cut-length g s = refl
+
+pub cut-place : (g : ℕ) (s : List ℕ) → cutPlace g s ≤ length s
+cut-place g s = omega (arith, cut-length g s)
+
+marked-length : (k : ℕ) (s : List ℕ) → marked k s ≤ length s
+unfolding marked
+marked-length zero s = omega arith
+marked-length (suc k) [] = omega arith
+marked-length (suc k) (b ∷ s) =
+    by-cases (decLt b 128) (λ l. simp (lt-ltb b 128 l) (omega arith)) (λ l. simp (le-ltb b 128 (omega arith)) (omega (arith, marked-length k s)))
 
 pub long-place : (g : ℕ) (s : List ℕ) → longPlace g s ≤ length s
 unfolding longPlace
-long-place g s = omega arith
+long-place g s = marked-length (g - 1) s
+
+-- the places are the same in the first k bytes, where these hold all groups
+pub cut-take : (g k : ℕ) (s : List ℕ) → g ≤ k → rawOf g s ≡ Cut → cutPlace g (take k s) ≡ cutPlace g s
+cut-take g k s h e = omega (arith, cut-length g (take k s), cut-length g s, length-take k s, raw-cut g s e .0)
+
+marked-take : (n k : ℕ) (s : List ℕ) → n ≤ k → marked n (take k s) ≡ marked n s
+unfolding marked
+marked-take zero k s h = refl
+marked-take (suc n) zero s h = absurd (omega arith)
+marked-take (suc n) (suc k) [] h = refl
+marked-take (suc n) (suc k) (b ∷ s) h = ap (λ m. pick (ltb b 128) 0 (suc m)) (marked-take n k s (omega arith))
+
+pub long-take : (g k : ℕ) (s : List ℕ) → g ≤ k → rawOf g s ≡ Long → longPlace g (take k s) ≡ longPlace g s
+unfolding longPlace
+long-take g k s h e = marked-take (g - 1) k s (omega arith)
+
+-- the count of bytes with a top bit set, once one without it is found, or there is none among the first n
+marked-stop : (n k : ℕ) (s : List ℕ) → k ≤ n → Follow s k → (k < n → getD s k 0 < 128) → marked n s ≡ k
+unfolding marked
+marked-stop zero k s h f z = omega arith
+marked-stop (suc n) zero [] h f z = refl
+marked-stop (suc n) zero (b ∷ s) h f z = simp (lt-ltb b 128 (z (omega arith)))
+marked-stop (suc n) (suc k) [] h f z = absurd (omega (arith, f 0 (omega arith)))
+marked-stop (suc n) (suc k) (b ∷ s) h f z =
+    simp (le-ltb b 128 (f 0 (omega arith)))
+    (ap suc (marked-stop n k s (omega arith) (λ i l. f (suc i) (omega arith)) (λ l. z (omega arith))))
+
+-- after k bytes with a top bit set, refusal 2 stands at byte k where this is the g-th or its top bit is not set
+pub long-stop : (g k : ℕ) (s : List ℕ) → k < g → Follow s k → (k < g - 1 → getD s k 0 < 128) → longPlace g s ≡ k
+unfolding longPlace
+long-stop g k s h f z = marked-stop (g - 1) k s (omega arith) f z
+
+-- THE BYTE THAT BREAKS THE RULE: the last byte that there may be where its top bit is set, otherwise the last of several groups, which is zero
+abbrev pub BadByte : ℕ → List ℕ → ℕ → Type 0
+BadByte g s k = Follow s k × (((suc k ≡ g) × (128 ≤ getD s k 0)) ⊎ ((1 ≤ k) × (k < g) × (k < length s) × (getD s k 0 ≡ 0)))
+
+pub long-byte : (g : ℕ) (s : List ℕ) → 1 ≤ g → rawOf g s ≡ Long → BadByte g s (longPlace g s)
+long-byte g s h e =
+    ⊎-elim
+    (λ f. subst (BadByte g s) (sym (long-stop g (g - 1) s (omega arith) (λ i l. f i (omega arith)) (λ l. absurd (omega arith))))
+    ((λ i l. f i (omega arith)), inl (omega arith, f (g - 1) (omega arith))))
+    (λ f. subst (BadByte g s) (sym (long-stop g (f .0) s (f .2) (f .4) (λ l. omega (arith, f .5)))) (f .4, inr (f .1, f .2, f .3, f .5)))
+    (raw-long g s e)
 
 module _ (g : ℕ) (s : List ℕ) (low high : ℕ) where
   pub number-cut : rawOf g s ≡ Cut → numberOf g s low high ≡ refused 1 (cutPlace g s)

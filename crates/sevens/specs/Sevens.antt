@@ -3,7 +3,7 @@
 --   pick t a b              a where the test t holds, b where it does not
 --   followed b x            what a byte b, whose top bit is set, comes to before x
 --   rawOf g s               the number at the front of the bytes s, of at most g groups: Cut, Long, or Value with its value and its size in bytes
---   cutPlace, longPlace     where refusals 1 and 2 of such a number are placed
+--   cutPlace, longPlace     where refusals 1 and 2 of such a number are placed; marked k s: how many bytes with a top bit set come first
 --   Answer                  what reading a number hands back
 --   refused number at       a refusal; accepted value rest: an acceptance
 --   limited g s low high x  the answer, where x is what stands at the front of s
@@ -44,13 +44,20 @@ rawOf (suc g) (b ∷ s) = pick (ltb b 128) (Value b 1) (followed b (rawOf g s))
 
 -- ---- a number within limits
 
--- refusal 1 stands at the number's first byte
+-- refusal 1 stands after the last byte lent, where the missing one would be
 unfoldable pub cutPlace : ℕ → List ℕ → ℕ
-cutPlace g s = 0
+cutPlace g s = length s
 
--- refusal 2 stands at the number's first byte
+-- how many of the first k bytes, from the front on, have their top bit set
+unfoldable pub marked : ℕ → List ℕ → ℕ
+marked zero s = 0
+marked (suc k) [] = 0
+marked (suc k) (b ∷ s) = pick (ltb b 128) 0 (suc (marked k s))
+
+-- refusal 2 stands at the byte that breaks the rule: the g-th where its top bit is set (then it is after g - 1 such bytes),
+-- otherwise the last group, which is zero (`long-byte` says both)
 unfoldable pub longPlace : ℕ → List ℕ → ℕ
-longPlace g s = 0
+longPlace g s = marked (g - 1) s
 
 -- the value, the number of the refusal or 0, its place, and the bytes not yet read
 pub record Answer : Type 0 where

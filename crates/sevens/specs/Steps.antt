@@ -3,8 +3,10 @@
 --   carried v scale i x     what i groups that came to v, the last of them followed by another, come to before x
 use Prim.Native.Nat.{ℕ, zero, suc, _+_, _-_, _*_, _/_, _%_, _^_, _≤_, _<_}
 use mathlib.Core.List.{List, [], _∷_}
+use mathlib.Core.Logic.{by-cases}
 use mathlib.Core.Path.{_≡_, refl, ap, sym, _∙_, subst}
 use native.Mathlib.Omega.{arith}
+use native.Mathlib.Decide.{decLt}
 use native.Mathlib.Numerals.{add-one}
 use native.Mathlib.Nat.{pow-suc, pow-le-pow-right, mul-le-mul}
 use lib.ListN.{length, getD, drop, take, set, length-drop}
@@ -12,7 +14,7 @@ use lib.Seq.{drop-cons, take-all, sets}
 use Rattle.sevens.specs.declared.Raw.{Raw}
 use Rattle.sevens.specs.declared.Raw.the-variants.{Cut, Long, Value}
 use Rattle.sevens.specs.Sevens.{followed, rawOf, Answer, refused, numberOf, Read, codeOf, codeLength, putOf}
-use Rattle.sevens.specs.Laws.{raw-last, raw-more, raw-size, value-same, number-accepted, number-most, code-last, code-more, put-room}
+use Rattle.sevens.specs.Laws.{raw-last, raw-more, raw-size, Follow, value-same, number-accepted, number-most, code-last, code-more, put-room}
 
 -- ---- reading group after group
 
@@ -113,6 +115,14 @@ turn-fits g i scale v b h =
 
 pub scale-again : (i scale : ℕ) → scale ≡ 128 ^ i → scale * 128 ≡ 128 ^ (i + 1)
 scale-again i scale e = rw (add-one, pow-suc, e)
+
+-- ---- looking for the byte that breaks the rule
+
+pub follow-next : (s : List ℕ) (k : ℕ) → Follow s k → 128 ≤ getD s k 0 → Follow s (k + 1)
+follow-next s k f h i l =
+    by-cases (decLt i k)
+    (λ j. f i j)
+    (λ j. let e : k ≡ i = omega arith in subst (λ n. 128 ≤ getD s n 0) e h)
 
 -- ---- what a reading hands back
 

@@ -70,18 +70,30 @@ fn written(bytes: &[u8], groups: usize) -> Raw
     several(bytes, groups)
 }
 
-// The place of refusal 1; `cutPlace` of specs/ says which.
+// The place of refusal 1: after the last byte, where the missing one would be.
 fn cut_place(bytes: &[u8], groups: usize) -> usize
     ensures { λ r. ⌜ r ≡ cutPlace groups (now (bytes .entry)) ⌝ }
 {
-    0
+    bytes.len()
 }
 
-// The place of refusal 2; `longPlace` of specs/ says which.
+// The place of refusal 2: the byte that breaks the rule, which is the last that there may be, or else the last group, which is zero.
 fn long_place(bytes: &[u8], groups: usize) -> usize
+    requires { ⌜ 1 ≤ groups ⌝ }
     ensures { λ r. ⌜ r ≡ longPlace groups (now (bytes .entry)) ⌝ }
 {
-    0
+    let last = groups - 1;
+    let mut i = 0usize;
+    while i < last {
+        if bytes.len() <= i {
+            return i;
+        }
+        if bytes[i] < 128 {
+            return i;
+        }
+        i += 1;
+    }
+    last
 }
 
 // The empty part at the start of the bytes, which a refusal hands back.

@@ -7,7 +7,7 @@
 use mathlib.Core.Path.{_≡_, refl}
 use mathlib.Core.List.{List, [], _∷_}
 use Prim.Native.Nat.{ℕ}
-use Rattle.sevens.specs.Sevens.{rawOf, followed, numberOf, limited, cutPlace, longPlace}
+use Rattle.sevens.specs.Sevens.{rawOf, followed, numberOf, limited, cutPlace, marked, longPlace}
 use Rattle.rulefile.specs.File.{numAt, andThen, rulesFrom, readOf, refusedRead}
 use Rattle.laps.specs.Lists.{Lap}
 use Rattle.laps.specs.Lists as laps
@@ -45,34 +45,45 @@ lines =
     ∷ lap lap-7
     ∷ lap lap-8
     ∷ lap lap-9
-    ∷ refused (refuses (128 ∷ []) 1 0)
-    ∷ refused (refuses (128 ∷ 0 ∷ []) 2 0)
-    ∷ refused (refuses (128 ∷ 128 ∷ 128 ∷ []) 2 0)
+    ∷ refused (refuses (128 ∷ []) 1 1)
+    ∷ refused (refuses (128 ∷ 0 ∷ []) 2 1)
+    ∷ refused (refuses (128 ∷ 128 ∷ 128 ∷ []) 2 2)
     ∷ refused (refuses (0 ∷ []) 3 0)
     ∷ refused (refuses (1 ∷ 0 ∷ 0 ∷ []) 4 2)
+    ∷ refused (refuses (128 ∷ 128 ∷ 0 ∷ []) 2 2)
+    ∷ refused (refuses (1 ∷ 128 ∷ []) 1 2)
     ∷ []
 
 -- P10, computed by the definition
-file-1 : Right (refused (refuses (128 ∷ []) 1 0))
-unfolding readOf numAt andThen rawOf followed numberOf limited cutPlace longPlace
+file-1 : Right (refused (refuses (128 ∷ []) 1 1))
+unfolding readOf numAt andThen rawOf followed numberOf limited cutPlace marked longPlace
 file-1 = refl
 
-file-2 : Right (refused (refuses (128 ∷ 0 ∷ []) 2 0))
-unfolding readOf numAt andThen rawOf followed numberOf limited cutPlace longPlace
+file-2 : Right (refused (refuses (128 ∷ 0 ∷ []) 2 1))
+unfolding readOf numAt andThen rawOf followed numberOf limited cutPlace marked longPlace
 file-2 = refl
 
-file-3 : Right (refused (refuses (128 ∷ 128 ∷ 128 ∷ []) 2 0))
-unfolding readOf numAt andThen rawOf followed numberOf limited cutPlace longPlace
+file-3 : Right (refused (refuses (128 ∷ 128 ∷ 128 ∷ []) 2 2))
+unfolding readOf numAt andThen rawOf followed numberOf limited cutPlace marked longPlace
 file-3 = refl
 
 file-4 : Right (refused (refuses (0 ∷ []) 3 0))
-unfolding readOf numAt andThen rawOf followed numberOf limited cutPlace longPlace
+unfolding readOf numAt andThen rawOf followed numberOf limited cutPlace marked longPlace
 file-4 = refl
 
 file-5 : Right (refused (refuses (1 ∷ 0 ∷ 0 ∷ []) 4 2))
-unfolding readOf numAt andThen rulesFrom rawOf followed numberOf limited cutPlace longPlace
+unfolding readOf numAt andThen rulesFrom rawOf followed numberOf limited cutPlace marked longPlace
 file-5 = refl
+
+-- the third byte as the last, zero group, and a number cut that is not the first
+file-6 : Right (refused (refuses (128 ∷ 128 ∷ 0 ∷ []) 2 2))
+unfolding readOf numAt andThen rawOf followed numberOf limited cutPlace marked longPlace
+file-6 = refl
+
+file-7 : Right (refused (refuses (1 ∷ 128 ∷ []) 1 2))
+unfolding readOf numAt andThen rawOf followed numberOf limited cutPlace marked longPlace
+file-7 = refl
 
 -- ALL THAT WAS WORKED BY HAND
 pub worked : AllRight lines
-worked = (line-1, (line-2, (line-3, (line-4, (line-5, (line-6, (line-7, (line-8, (line-9, (file-1, (file-2, (file-3, (file-4, (file-5, tt))))))))))))))
+worked = (line-1, (line-2, (line-3, (line-4, (line-5, (line-6, (line-7, (line-8, (line-9, (file-1, (file-2, (file-3, (file-4, (file-5, (file-6, (file-7, tt))))))))))))))))

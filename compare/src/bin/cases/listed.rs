@@ -162,12 +162,14 @@ pub const TABLES: [(&str, &str, &str); 82] = [
 
 /// Name, bytes, call.
 #[rustfmt::skip]
-pub const FILES: [(&str, &str, &str); 45] = [
+pub const FILES: [(&str, &str, &str); 47] = [
     ("worked P10, 80", "80", "read 1 1 1 1 1"),
     ("worked P10, 80 00", "80 00", "read 1 1 1 1 1"),
     ("worked P10, 80 80 80", "80 80 80", "read 1 1 1 1 1"),
     ("worked P10, 00", "00", "read 1 1 1 1 1"),
     ("worked P10, 01 00 00", "01 00 00", "read 1 1 1 1 1"),
+    ("worked P10, 80 80 00", "80 80 00", "read 1 1 1 1 1"),
+    ("worked P10, 01 80", "01 80", "read 1 1 1 1 1"),
     ("no bytes", "", "read 1 1 1 1 1"),
     ("cut before m", "01", "read 1 1 1 1 1"),
     ("cut inside the third group", "01 80 80", "read 1 1 1 1 1"),
