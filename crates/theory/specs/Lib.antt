@@ -22,3 +22,4 @@ pub mod Thesis
 pub mod Answer
 pub mod Same
 pub mod Near
+pub mod Rate
