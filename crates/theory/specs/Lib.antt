@@ -23,3 +23,4 @@ pub mod Answer
 pub mod Same
 pub mod Near
 pub mod Rate
+pub mod Linear
