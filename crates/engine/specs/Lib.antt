@@ -11,3 +11,4 @@ pub mod Lay
 pub mod Verdict
 pub mod Lap
 pub mod Turn
+pub mod Reach

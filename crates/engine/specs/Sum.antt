@@ -30,7 +30,7 @@ unfolding total
 total-past zero xs i x h = omega arith
 total-past (suc k) xs i x h = omega (arith, total-past k xs i x (omega arith), getD-set-other xs i k x 0 (λ e. omega arith))
 
-total-falls : (k : ℕ) (xs : List ℕ) (i x : ℕ) → i < k → x < getD xs i 0 → total k (set xs i x) < total k xs
+pub total-falls : (k : ℕ) (xs : List ℕ) (i x : ℕ) → i < k → x < getD xs i 0 → total k (set xs i x) < total k xs
 unfolding total
 total-falls zero xs i x h l = absurd (omega arith)
 total-falls (suc k) xs i x h l =

@@ -3,6 +3,7 @@ mod climb;
 mod columns;
 mod first;
 mod laps;
+mod reach;
 mod scan;
 
 ghost use Rattle.engine.specs.Lap.{LapOf};
