@@ -12,3 +12,4 @@ pub mod Verdict
 pub mod Lap
 pub mod Turn
 pub mod Reach
+pub mod Rate

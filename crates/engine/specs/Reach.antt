@@ -14,7 +14,7 @@
 --   CutOff S v cut               == just the transitions that reach v are not cut off
 --   StartsAt cut source v x      == x is the rule's source, or v where its target is cut off
 --   Steered source target m v cut from   == so it is for each rule; steered-next: the loop that makes them
---   steers, limits-steered       they steer the rules, and are within the limits
+--   steers, steers-offsets, limits-steered   they steer the rules, and are within the limits
 use mathlib.Core.Path.{_≡_, refl, sym, ap, _∙_, subst}
 use mathlib.Core.Logic.{_⊎_, inl, inr, ⊎-elim, by-cases, _≢_}
 use mathlib.Core.List.{List, [], _∷_}
@@ -346,16 +346,22 @@ within-limits source target offset m n l =
       to-below = λ j b. omega (arith, l .fits j b, l .few-transitions);
     }
 
-module _ (source target offset : List ℕ) (m n v : ℕ) (cut from : List ℕ) (limits : Limits source target offset m n) (b : v < n)
-    (off : CutOff (plain source target m) v cut) (h : Steered source target m v cut from) where
-  -- THE CODE'S SOURCES STEER THE RULES
-  pub steers : Steers (shape source target offset m) v (λ r. getD from r 0)
-  steers r l =
+-- THE CODE'S SOURCES STEER THE RULES
+pub steers : (source target : List ℕ) (m v : ℕ) (cut from : List ℕ) → Within source target m → CutOff (plain source target m) v cut → Steered source target m v cut from
+    → Steers (plain source target m) v (λ r. getD from r 0)
+steers source target m v cut from w off h r l =
+    ⊎-elim
+    (λ k. inl (off .reach (getD target r 0) (w .to-below r l) (k .0), k .1))
+    (λ k. inr (off .shut (getD target r 0) (k .0), k .1))
+    (h r l)
+
+module _ (source target offset : List ℕ) (m n v : ℕ) (from : List ℕ) (limits : Limits source target offset m n) (b : v < n) (h : Steers (plain source target m) v (λ r. getD from r 0)) where
+  -- the offsets added
+  pub steers-offsets : Steers (shape source target offset m) v (λ r. getD from r 0)
+  steers-offsets r l =
       ⊎-elim
-      (λ k.
-      let x = off .reach (getD target r 0) (omega (arith, limits .fits r l .1, limits .few-transitions)) (k .0) in
-      inl (record { way = x .way; leads = walk-offsets source target [] offset m (getD target r 0) v (x .way) (x .leads) }, k .1))
-      (λ k. inr (λ x. off .shut (getD target r 0) (k .0) (record { way = x .way; leads = walk-offsets source target offset [] m (getD target r 0) v (x .way) (x .leads) }), k .1))
+      (λ k. inl (record { way = k .0 .way; leads = walk-offsets source target [] offset m (getD target r 0) v (k .0 .way) (k .0 .leads) }, k .1))
+      (λ k. inr (λ x. k .0 (record { way = x .way; leads = walk-offsets source target offset [] m (getD target r 0) v (x .way) (x .leads) }), k .1))
       (h r l)
 
   pub limits-steered : Limits from target offset m n
@@ -364,6 +370,6 @@ module _ (source target offset : List ℕ) (m n v : ℕ) (cut from : List ℕ) (
         few-rules = limits .few-rules;
         some-transition = limits .some-transition;
         few-transitions = limits .few-transitions;
-        fits = fits-steered (shape source target offset m) v (λ r. getD from r 0) steers n b (limits .fits);
+        fits = fits-steered (shape source target offset m) v (λ r. getD from r 0) steers-offsets n b (limits .fits);
         small-offsets = limits .small-offsets;
       }

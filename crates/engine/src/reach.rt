@@ -2,6 +2,7 @@
 ghost use mathlib.Core.Path.{_≡_};
 ghost use Prim.Native.Nat.{ℕ, _+_, _≤_, _<_};
 ghost use lib.ListN.{getD};
+ghost use Rattle.theory.specs.Rate.{Steers};
 ghost use Rattle.engine.specs.Listed.{plain, Within};
 ghost use Rattle.engine.specs.Sum.{total};
 ghost use Rattle.engine.specs.Reach.{Entering, Opened, Reaching, Chained, Visited, CutOff, StartsAt, Steered};
@@ -87,7 +88,7 @@ fn visit(
 }
 
 // Which transitions are cut off from v: 0 where rules lead from it to v, 1 where none do. Each is visited once, and each rule gone over once.
-pub fn cut_off(source: &[u16; 2048], target: &[u16; 2048], m: usize, v: usize) -> [u8; 256]
+fn cut_off(source: &[u16; 2048], target: &[u16; 2048], m: usize, v: usize) -> [u8; 256]
     requires { ⌜ Within (now source) (now target) m ⌝ }
     requires { ⌜ v < 256 ⌝ }
     ensures { λ r. ⌜ CutOff (plain (now (source .entry)) (now (target .entry)) m) v r ⌝ }
@@ -102,7 +103,18 @@ pub fn cut_off(source: &[u16; 2048], target: &[u16; 2048], m: usize, v: usize) -
     while done < len {
         let t = wide(found[done]);
         let first = wide(last[t]);
-        len = visit(source, target, &before, m, v, t, first, &mut cut, &mut found, len);
+        len = visit(
+            source,
+            target,
+            &before,
+            m,
+            v,
+            t,
+            first,
+            &mut cut,
+            &mut found,
+            len,
+        );
         done += 1;
     }
     cut
@@ -118,8 +130,8 @@ fn start(cut: u8, source: u16, v: u16) -> u16
     v
 }
 
-// The sources of the rules, steered: a rule whose target is cut off starts at v. Nothing then leaves what is cut off, so no loop visits it.
-pub fn steer(
+// Every rule's start. Nothing then leaves what is cut off, so no loop visits it.
+fn steer(
     source: &[u16; 2048],
     target: &[u16; 2048],
     m: usize,
@@ -138,4 +150,14 @@ pub fn steer(
         r += 1;
     }
     from
+}
+
+// The sources of the rules, steered: the loops that are left are those that reach v.
+pub fn toward(source: &[u16; 2048], target: &[u16; 2048], m: usize, v: usize) -> [u16; 2048]
+    requires { ⌜ Within (now source) (now target) m ⌝ }
+    requires { ⌜ v < 256 ⌝ }
+    ensures { λ r. ⌜ Steers (plain (now (source .entry)) (now (target .entry)) m) v (λ i. getD r i 0) ⌝ }
+{
+    let cut = cut_off(source, target, m, v);
+    steer(source, target, m, v, &cut)
 }
