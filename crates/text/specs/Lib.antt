@@ -3,3 +3,4 @@ pub mod Puts
 pub mod Text
 pub mod Made
 pub mod Example
+pub mod Rates
