@@ -12,12 +12,13 @@ LIMITS = [
     ("n 0", "refused 3 at 0", "refused 3 at 0"),
     ("n 1", ["period 7/1 exact, low 0, high 0, schedule 1 0", "rate 7/1 exact", "times 0",
              "bytes 01 01 00 00 01 08"], "n 1: 0>0/1/7"),
-    ("n 256", ["period 7/1 exact, low 0, high 0, schedule 1 256*0", "rate 7/1 exact", "times 256*0",
+    # The only loop is at 255, and transition 0, whose rate is asked, is not reached.
+    ("n 256", ["period 7/1 exact, low 0, high 0, schedule 1 256*0", "refused 6 at 0", "times 256*0",
                "bytes 80 02 01 ff 01 ff 01 01 08"], "n 256: 255>255/1/7"),
     ("n 257", "refused 3 at 0", "refused 3 at 0"),
     ("m 0", ["refused 6 at 0", "refused 6 at 0", "times 0", "bytes 01 00"], "n 1:"),
     # 1000000/15 in lowest terms is 200000/3; of 2048 equal loops rule 0 is the first.
-    ("m 2048", ["period 200000/3 exact, low 0, high 0, schedule 3 256*0", "rate 200000/3 exact", "times 256*0",
+    ("m 2048", ["period 200000/3 exact, low 0, high 0, schedule 3 256*0", "refused 6 at 0", "times 256*0",
                 "bytes 80 02 80 10 2048*ff.01.ff.01.0f.c1.84.3d"], "n 256: 2048*" + HIGHEST),
     ("m 2049", "refused 3 at 1", "refused 3 at 2"),
     # (200 + 1000000)/(1 + 15) is 125025/2. Rule 1 asks X(0) >= X(1) + 2*1000000 - 15*125025 = X(1) + 124625.
@@ -76,6 +77,15 @@ TABLES = [
     ("both", "rate of the last transition", "rate 7/1 exact"),
     ("both", "rate of a transition too many", "refused 10 at 256"),
     ("both", "rate, a range", "rate from 3/1 to 1000003/1"),
+    # The loop 0 1 takes 1 + 2, the loop 2 3 takes 4 + 6, and what reaches 0 reaches 2 and 4 as well.
+    ("both", "rate of a front end", "rate 3/1 exact"),
+    ("both", "rate of what it feeds", "rate 10/1 exact"),
+    ("both", "rate behind both", "rate 10/1 exact"),
+    ("both", "rate before both", "refused 6 at 0"),
+    ("both", "rate beside both", "rate from 0/1 to 1000000/1"),
+    ("both", "rate behind a slower front end", "rate 10/1 exact"),
+    ("both", "rate of a transition without rules", "refused 6 at 0"),
+    ("both", "rate, a loop of offset 0 elsewhere", "refused 5 at 1"),
     ("both", "lowest transition on a loop of offset 0", "refused 5 at 2"),
     ("both", "the same by rate", "refused 5 at 2"),
     ("both", "the same by simulation", "refused 5 at 2"),

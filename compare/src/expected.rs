@@ -6,7 +6,7 @@ use reference::analyse::{analyse, analyse_by, range_by, Analysis, Range, Room, E
 use reference::bids;
 use reference::file;
 use reference::gen::Size;
-use reference::rate::rate;
+use reference::rate::{listed_rate, rate};
 use reference::refusal::{demand, refusal, Refusal, ROOM};
 use reference::report::report;
 use reference::simulate::simulate;
@@ -35,7 +35,10 @@ impl<'a> Second<'a> {
     pub fn call(&self, call: Call) -> Outcome {
         match call {
             Call::Analyse(room) => analysis_outcome(self.analyse(room), room),
-            Call::Rate(v) => rate_outcome(rate(self.table, v as u64)),
+            Call::Rate(v) => rate_outcome(match listed(self.table) {
+                true => listed_rate(self.table, v as u64),
+                false => rate(self.table, v as u64),
+            }),
             Call::Simulate(occurrences, room) => {
                 times_outcome(simulate(self.table, occurrences as u64, room), room)
             }

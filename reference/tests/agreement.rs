@@ -7,7 +7,7 @@ use reference::exact;
 use reference::gen::{self, Size, KINDS};
 use reference::loops;
 use reference::notation;
-use reference::rate::rate;
+use reference::rate::{listed_rate, rate};
 use reference::ratio::Ratio;
 use reference::refusal::Refusal;
 use reference::rng::Rng;
@@ -34,14 +34,37 @@ fn both_ways_agree_on_small_tables() {
             assert_eq!(answer, listed_answer(&table), "{name}: {shown}");
             let number = answer.as_ref().err().map_or(0, |fault| fault.number);
             *outcomes.entry(number).or_default() += 1;
-            let rates = rate(&table, table.n as u64 - 1);
-            assert_eq!(rates, answer.map(|found| found.range), "{name}: {shown}");
+            for v in 0..=table.n as u64 {
+                assert_eq!(rate(&table, v), listed_rate(&table, v), "{name}: {shown}");
+            }
+            rates_agree(&table, &answer, &shown);
         }
     }
     // A kind of outcome that never came up was not compared at all.
     for number in [0, 5, 6] {
         assert!(outcomes[&number] > 1_000, "{outcomes:?}");
     }
+}
+
+/// What the rates of one table have to do with each other and with its period:
+/// none falls along a rule, and the largest is the period.
+fn rates_agree(table: &Table, answer: &Result<Analysis, Refusal>, shown: &str) {
+    let rates: Vec<_> = (0..table.n as u64).map(|v| rate(table, v)).collect();
+    for rule in table.used() {
+        if let Ok(from) = rates[rule.source as usize] {
+            let to =
+                rates[rule.target as usize].expect("what reaches the source reaches the target");
+            assert!(from.low <= to.low && from.high <= to.high, "{shown}");
+        }
+    }
+    let low = rates.iter().flatten().map(|range| range.low).max();
+    let high = rates.iter().flatten().map(|range| range.high).max();
+    let range = answer.as_ref().ok().map(|found| found.range);
+    assert_eq!(
+        (low, high),
+        (range.map(|r| r.low), range.map(|r| r.high)),
+        "{shown}"
+    );
 }
 
 #[test]

@@ -1,6 +1,6 @@
 //! The laps worked by hand, P1 to P10, and the limits on both sides.
 
-use reference::analyse::{analyse, analyse_by, Analysis, Room, LISTING};
+use reference::analyse::{analyse, analyse_by, Analysis, Range, Room, LISTING};
 use reference::file;
 use reference::notation::parse;
 use reference::rate::rate;
@@ -293,15 +293,33 @@ fn orders_of_refusal() {
     assert_eq!(file::write_into(&bad, 0), refused(3, 8));
 }
 
-/// The rate of a transition that no loop reaches is the table's range too.
+fn exact_rate(p: u64) -> Result<Range, Refusal> {
+    let one = Ratio { p, q: 1 };
+    Ok(Range {
+        low: one,
+        high: one,
+    })
+}
+
+/// A front end of lap 3 that feeds a loop of lap 10, a transition behind both,
+/// one before them that no loop reaches, and a blank that only itself feels.
 #[test]
-fn one_lap_for_all() {
-    let table = table("n 3: 0>0/1/5, 0>1/0/1");
-    for transition in 0..3 {
-        let range = rate(&table, transition).unwrap();
-        assert_eq!(
-            (range.low, range.high),
-            (Ratio { p: 5, q: 1 }, Ratio { p: 5, q: 1 })
-        );
+fn each_its_own_rate() {
+    let table =
+        table("n 7: 0>1/0/1, 1>0/1/2, 1>2/0/5, 2>3/0/4, 3>2/1/6, 3>4/0/1, 5>0/0/9, 6>6/1/?");
+    for (transition, wanted) in [(0, 3), (1, 3), (2, 10), (3, 10), (4, 10)] {
+        assert_eq!(rate(&table, transition), exact_rate(wanted));
     }
+    assert_eq!(
+        rate(&table, 5).err(),
+        Some(Refusal {
+            number: 6,
+            place: 0
+        })
+    );
+    let blank = rate(&table, 6).unwrap();
+    assert_eq!(
+        (blank.low, blank.high),
+        (Ratio { p: 0, q: 1 }, Ratio { p: 1_000_000, q: 1 })
+    );
 }

@@ -2,6 +2,7 @@
 --
 --   FilledDelay d d′    == d′ is d, or d is unknown and d′ known, within the limits
 --   Filled t t′         == t′ is t with some blanks filled
+--   EndsInward a b      == the ends of b lie within those of a, and an exact a stays; ends-inward: so they do where delays are narrowed
 --   Inward v w          == what filling may do to a verdict: nothing to a refusal; an answer's ends move inward, and an exact one stays
 --   filled-inward       THE THEOREM, between the verdicts on two such tables
 use mathlib.Core.Path.{_≡_, refl, sym, ap, _∙_, subst, fun-ext}
@@ -17,7 +18,7 @@ use Rattle.model.specs.Loop.{NoLoop, Live}
 use Rattle.model.specs.Knot.{Knot}
 use Rattle.model.specs.Filling.{Ranges, leastOf, greatestOf}
 use Rattle.model.specs.Ends.{LowEnd, HighEnd, Narrows}
-use Rattle.model.specs.Answer.{Answer, Answers}
+use Rattle.model.specs.Answer.{Answer, Exact, Answers}
 use Rattle.theory.specs.Ends.{low-inward, high-inward, exact-stays}
 use Rattle.table.specs.declared.Delay.{Delay}
 use Rattle.table.specs.declared.Delay.the-variants.{Known, Unknown}
@@ -46,6 +47,12 @@ pub record Filled (t t′ : Table) : Type 0 where
   pub m-same : t′ .m ≡ t .m
   pub rules : (r : ℕ) → r < t .m → FilledRule (ruleOf t r) (ruleOf t′ r)
 
+-- the ends of b lie within those of a; and where those meet, so do these, at the same ratio
+abbrev pub EndsInward : Answer → Answer → Type 0
+EndsInward a b =
+    (a .lowP * b .lowQ ≤ b .lowP * a .lowQ) × (b .highP * a .highQ ≤ a .highP * b .highQ)
+    × (a .exact ≡ true → (b .lowP ≡ a .lowP) × (b .lowQ ≡ a .lowQ) × (b .highP ≡ a .highP) × (b .highQ ≡ a .highQ) × (b .exact ≡ true))
+
 abbrev pub Inward : Verdict → Verdict → Type 0
 Inward (outside j) w = w ≡ outside j
 Inward (knotted u) w = w ≡ knotted u
@@ -55,9 +62,27 @@ Inward (found a) (outside k) = ⊥
 Inward (found a) (knotted u) = ⊥
 Inward (found a) flat = ⊥
 Inward (found a) wide = ⊥
-Inward (found a) (found b) =
-    (a .lowP * b .lowQ ≤ b .lowP * a .lowQ) × (b .highP * a .highQ ≤ a .highP * b .highQ)
-    × (a .exact ≡ true → (b .lowP ≡ a .lowP) × (b .lowQ ≡ a .lowQ) × (b .highP ≡ a .highP) × (b .highQ ≡ a .highQ) × (b .exact ≡ true))
+Inward (found a) (found b) = EndsInward a b
+
+-- between two ranges of delays, the second the narrower
+pub ends-inward : (S : Shape) (K K′ : Ranges) → Narrows S K K′ → (a b : Answer) → LowEnd S K (a .lowP) (a .lowQ) → HighEnd S K (a .highP) (a .highQ) → Exact a
+    → LowEnd S K′ (b .lowP) (b .lowQ) → HighEnd S K′ (b .highP) (b .highQ) → Exact b → EndsInward a b
+ends-inward S K K′ narrows a b low high meet low′ high′ meet′ = (low-inward S K K′ narrows _ _ _ _ low low′, high-inward S K K′ narrows _ _ _ _ high high′, stays)
+  where
+    flag : true ≡ false → ⊥
+    flag z = let c : _≡_ {A = ℕ} 0 1 = cc in omega arith
+
+    stays : a .exact ≡ true → (b .lowP ≡ a .lowP) × (b .lowQ ≡ a .lowQ) × (b .highP ≡ a .highP) × (b .highQ ≡ a .highQ) × (b .exact ≡ true)
+    stays e =
+        let m : (a .lowP ≡ a .highP) × (a .lowQ ≡ a .highQ) = ⊎-elim (λ k. (k .0, k .1)) (λ k. absurd (flag (sym e ∙ k .1))) meet in
+        let same : HighEnd S K (a .lowP) (a .lowQ) = rw (m .0, m .1) high in
+        let s = exact-stays S K K′ narrows _ _ _ _ _ _ low same low′ high′ in (
+          s .0 .0,
+          s .0 .1,
+          s .1 .0 ∙ m .0,
+          s .1 .1 ∙ m .1,
+          ⊎-elim (λ k. k .2) (λ k. absurd (k .0 (s .0 .0 ∙ sym (s .1 .0), s .0 .1 ∙ sym (s .1 .1)))) meet′,
+        )
 
 -- --------------------------------------------------------------------------------------------------------------------------------- the fields
 
@@ -95,7 +120,7 @@ module _ (t t′ : Table) (f : Filled t t′) where
   ok-back (suc zero) b o = omega (arith, f .m-same)
   ok-back (suc (suc k)) b o = rule-back (t .n) (t′ .n) (ruleOf t (k / 4)) (ruleOf t′ (k / 4)) (f .n-same) (f .rules (k / 4) (omega arith)) (k % 4) o
 
-  bad-filled : (k : ℕ) → FirstBad t k → FirstBad t′ k
+  pub bad-filled : (k : ℕ) → FirstBad t k → FirstBad t′ k
   bad-filled k b =
       record {
         counted = omega (arith, b .counted, f .m-same);
@@ -103,7 +128,7 @@ module _ (t t′ : Table) (f : Filled t t′) where
         before = λ j l. ok-filled j (omega (arith, b .counted)) (b .before j l);
       }
 
-  within-filled : Within t → Within t′
+  pub within-filled : Within t → Within t′
   within-filled w = ok-within t′ (λ k b. let c : k < fields t = omega (arith, f .m-same) in ok-filled k c (within-ok t w k c))
 
   -- ------------------------------------------------------------------------------------------------------------------------------ the rules
@@ -121,7 +146,7 @@ module _ (t t′ : Table) (f : Filled t t′) where
       (λ b. ap g (used-rule t r b) ∙ sym (keeps (ruleOf t r) (ruleOf t′ r) (f .rules r b)) ∙ ap g (sym (used-rule t′ r (omega (arith, f .m-same)))))
       (λ b. ap g (past (t .m) (t .rules) r (omega arith)) ∙ ap g (sym (past (t′ .m) (t′ .rules) r (omega (arith, f .m-same)))))
 
-  shape-filled : shapeOf t ≡ shapeOf t′
+  pub shape-filled : shapeOf t ≡ shapeOf t′
   shape-filled =
       ap (λ (m : ℕ). record { rules = m; source = shapeOf t .source; target = shapeOf t .target; offset = shapeOf t .offset }) (sym (f .m-same))
       ∙ ap (λ (g : ℕ → ℕ). record { rules = t′ .m; source = g; target = shapeOf t .target; offset = shapeOf t .offset }) (fun-ext (field-same (λ (x : Rule). x .source) (λ x y h. h .source)))
@@ -134,7 +159,7 @@ module _ (t t′ : Table) (f : Filled t t′) where
   narrow-delay Unknown (Known e) o h = (omega arith, h)
   narrow-delay Unknown Unknown o h = (omega arith, omega arith)
 
-  narrows-filled : Within t → Narrows (shapeOf t) (rangesOf t) (rangesOf t′)
+  pub narrows-filled : Within t → Narrows (shapeOf t) (rangesOf t) (rangesOf t′)
   narrows-filled w r b =
       let a = narrow-delay (ruleOf t r .delay) (ruleOf t′ r .delay) (w .rule r b .delay) (f .rules r b .delay) in
       let e = ap (λ (x : Rule). x .delay) (used-rule t r b) in
@@ -145,29 +170,7 @@ module _ (t t′ : Table) (f : Filled t t′) where
 
   -- the answer for the second table, read with the shape of the first
   inward : (a b : Answer) → Within t → Answers (shapeOf t) (rangesOf t) (t .n) a → Answers (shapeOf t) (rangesOf t′) (t′ .n) b → Inward (found a) (found b)
-  inward a b w x y = (
-    low-inward (shapeOf t) (rangesOf t) (rangesOf t′) narrows _ _ _ _ (x .low) (y .low),
-    high-inward (shapeOf t) (rangesOf t) (rangesOf t′) narrows _ _ _ _ (x .high) (y .high),
-    stays,
-  )
-    where
-      narrows : Narrows (shapeOf t) (rangesOf t) (rangesOf t′)
-      narrows = narrows-filled w
-
-      stays : a .exact ≡ true → (b .lowP ≡ a .lowP) × (b .lowQ ≡ a .lowQ) × (b .highP ≡ a .highP) × (b .highQ ≡ a .highQ) × (b .exact ≡ true)
-      stays e =
-          let m : (a .lowP ≡ a .highP) × (a .lowQ ≡ a .highQ) = ⊎-elim (λ k. (k .0, k .1)) (λ k. absurd (flag (sym e ∙ k .1))) (x .meet) in
-          let high : HighEnd (shapeOf t) (rangesOf t) (a .lowP) (a .lowQ) = rw (m .0, m .1) (x .high) in
-          let s = exact-stays (shapeOf t) (rangesOf t) (rangesOf t′) narrows _ _ _ _ _ _ (x .low) high (y .low) (y .high) in (
-            s .0 .0,
-            s .0 .1,
-            s .1 .0 ∙ m .0,
-            s .1 .1 ∙ m .1,
-            ⊎-elim (λ k. k .2) (λ k. absurd (k .0 (s .0 .0 ∙ sym (s .1 .0), s .0 .1 ∙ sym (s .1 .1)))) (y .meet),
-          )
-        where
-          flag : true ≡ false → ⊥
-          flag z = let c : _≡_ {A = ℕ} 0 1 = cc in omega arith
+  inward a b w x y = ends-inward (shapeOf t) (rangesOf t) (rangesOf t′) (narrows-filled w) a b (x .low) (x .high) (x .meet) (y .low) (y .high) (y .meet)
 
   pub filled-inward : (v w : Verdict) → Judges t v → Judges t′ w → Inward v w
   filled-inward (outside k) w j j′ = verdict-unique t′ w (outside k) j′ (bad-filled k j)

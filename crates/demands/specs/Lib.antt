@@ -1,2 +1,3 @@
 pub mod Refused
 pub mod Filled
+pub mod Rates

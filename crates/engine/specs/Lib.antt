@@ -16,3 +16,5 @@ pub mod Lay
 pub mod Verdict
 pub mod Lap
 pub mod Turn
+pub mod Reach
+pub mod Rate

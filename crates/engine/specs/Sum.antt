@@ -67,6 +67,9 @@ pub total-set : (k : ℕ) (xs : List ℕ) (i x : ℕ) → i < k → 0 < getD xs 
 total-set k xs i x b l =
     omega (arith, getD-set-same xs i x 0 (inside xs i l), sum-but k (λ j. getD (set xs i x) j 0) (λ j. getD xs j 0) i b (λ j d. getD-set-other xs i j x 0 d))
 
+pub total-falls : (k : ℕ) (xs : List ℕ) (i x : ℕ) → i < k → x < getD xs i 0 → total k (set xs i x) < total k xs
+total-falls k xs i x b l = omega (arith, total-set k xs i x b (omega arith))
+
 -- no flag is both
 pub not-both : (f : Bool) → f ≡ true → f ≡ false → ⊥
 not-both f a b = let z : _≡_ {A = ℕ} 0 1 = cc in omega arith

@@ -11,6 +11,7 @@ pub mod Ends
 pub mod Schedule
 pub mod Reported
 pub mod Knot
+pub mod Rate
 pub mod Answer
 pub mod Times
 pub mod Wide

@@ -5,8 +5,8 @@
 --   answeredAnalysis a       == the answer a
 --   outcomeOf n v x l h      == the outcome for the verdict v, with n transitions and buffers x, l, h lent: 3, then 8, then 5, 6, 11
 --   AnalysisOf t x l h o     == THE PROMISE of `analyse`
---   refusedRate f p, answeredRate a, ratedOf n v u      the same for the rate of transition u: 3, then 10, then 5, 6, 11
---   RateOf t u r             == THE PROMISE of `rate`
+--   refusedRate f p, answeredRate a, ratedOf n x        the same for the verdict x on a transition's rate: 3, then 10, then 5, 6, 11
+--   RateOf t v r             == THE PROMISE of `rate`, of transition v
 --
 -- Theorems: analysis-unique, rate-unique (one outcome each).
 use mathlib.Core.Path.{_≡_, refl, sym, ap, _∙_}
@@ -16,8 +16,10 @@ use Prim.Native.Nat.{ℕ, zero, suc, _+_, _-_, _≤_, _<_}
 use lib.Dec.{ltb}
 use lib.ListN.{length, drop}
 use Rattle.model.specs.Answer.{Answer}
+use Rattle.model.specs.Rate.{RateRange}
 use Rattle.table.specs.declared.Table.{Table}
 use Rattle.engine.specs.Verdict.{Verdict, outside, knotted, flat, wide, found, Judges, verdict-unique}
+use Rattle.engine.specs.Rate.{RateVerdict, bad-field, no-name, knot-at, unreached, too-wide, rated, JudgesRate, rate-verdict-unique}
 use Rattle.period.specs.declared.Ratio.{Ratio}
 use Rattle.period.specs.declared.End.{End}
 use Rattle.period.specs.declared.Analysis.{Analysis}
@@ -93,25 +95,22 @@ analysis-unique t x l h o o′ a b =
 abbrev pub refusedRate : ℕ → ℕ → Rated
 refusedRate f p = record { refusal = f; place = p; exact = false; low = record { p = 0; q = 0 }; high = record { p = 0; q = 0 } }
 
-abbrev pub answeredRate : Answer → Rated
+abbrev pub answeredRate : RateRange → Rated
 answeredRate a = record { refusal = 0; place = 0; exact = a .exact; low = record { p = a .lowP; q = a .lowQ }; high = record { p = a .highP; q = a .highQ } }
 
-abbrev pub judgedRate : Verdict → Rated
-judgedRate (outside k) = refusedRate 3 k
-judgedRate (knotted u) = refusedRate 5 u
-judgedRate flat = refusedRate 6 0
-judgedRate wide = refusedRate 11 0
-judgedRate (found a) = answeredRate a
+abbrev pub ratedOf : ℕ → RateVerdict → Rated
+ratedOf n (bad-field k) = refusedRate 3 k
+ratedOf n no-name = refusedRate 10 n
+ratedOf n (knot-at u) = refusedRate 5 u
+ratedOf n unreached = refusedRate 6 0
+ratedOf n too-wide = refusedRate 11 0
+ratedOf n (rated a) = answeredRate a
 
--- transition u is one of the n, or the call is refused 10
-abbrev pub ratedOf : ℕ → Verdict → ℕ → Rated
-ratedOf n v u = pick (isOutside v) (judgedRate v) (pick (ltb u n) (judgedRate v) (refusedRate 10 n))
-
-pub record RateOf (t : Table) (u : ℕ) (r : Rated) : Type 0 where
-  pub verdict : Verdict
-  pub judged : Judges t verdict
-  pub result : r ≡ ratedOf (t .n) verdict u
+pub record RateOf (t : Table) (v : ℕ) (r : Rated) : Type 0 where
+  pub verdict : RateVerdict
+  pub judged : JudgesRate t v verdict
+  pub result : r ≡ ratedOf (t .n) verdict
 
 -- ONLY ONE OUTCOME
-pub rate-unique : (t : Table) (u : ℕ) (r s : Rated) → RateOf t u r → RateOf t u s → r ≡ s
-rate-unique t u r s a b = a .result ∙ ap (λ v. ratedOf (t .n) v u) (verdict-unique t (a .verdict) (b .verdict) (a .judged) (b .judged)) ∙ sym (b .result)
+pub rate-unique : (t : Table) (v : ℕ) (r s : Rated) → RateOf t v r → RateOf t v s → r ≡ s
+rate-unique t v r s a b = a .result ∙ ap (ratedOf (t .n)) (rate-verdict-unique t v (a .verdict) (b .verdict) (a .judged) (b .judged)) ∙ sym (b .result)

@@ -1,7 +1,7 @@
 -- Steps of the proofs of `analyse` and `rate`.
 --
 --   put-next                     one value more is put into a buffer
---   analysed-..., rated-...      what each way out of the calls hands back is what the promise says
+--   analysed-..., rate-made      what each way out of the calls hands back is what the promise says
 use mathlib.Core.Path.{_≡_, refl, sym, ap, _∙_, subst}
 use mathlib.Core.Bool.{Bool, true, false}
 use mathlib.Core.Logic.{_≢_}
@@ -19,11 +19,13 @@ use Rattle.table.specs.declared.Table.{Table}
 use Rattle.table.specs.Fields.{Within}
 use Rattle.table.specs.Meaning.{shapeOf, within-fits}
 use Rattle.engine.specs.declared.Lap.{Lap}
+use Rattle.engine.specs.declared.Rating.{Rating}
 use Rattle.engine.specs.Verdict.{Verdict, outside, knotted, flat, wide, found, Judges}
 use Rattle.engine.specs.Lap.{LapOf, lapOf}
+use Rattle.engine.specs.Rate.{RateVerdict, bad-field, no-name, knot-at, unreached, too-wide, rated, ratingOf, RatingOf}
 use Rattle.period.specs.declared.Analysis.{Analysis}
 use Rattle.period.specs.declared.Rated.{Rated}
-use Rattle.period.specs.Promise.{pick, Outcome, outcome, endOf, refusedAnalysis, answeredAnalysis, into, judgedOutcome, roomFor, isOutside, outcomeOf, AnalysisOf, refusedRate, answeredRate, judgedRate, ratedOf, RateOf}
+use Rattle.period.specs.Promise.{pick, Outcome, outcome, endOf, refusedAnalysis, answeredAnalysis, into, judgedOutcome, roomFor, isOutside, outcomeOf, AnalysisOf, ratedOf, RateOf}
 
 put-one : (i : ℕ) (x out : List ℕ) → i < length x → i < length out → set (take i x ++ drop i out) i (getD x i 0) ≡ take (suc i) x ++ drop (suc i) out
 put-one zero [] out b c = absurd (omega arith)
@@ -58,13 +60,6 @@ refused-outcome (knotted u) x l h b = refl
 refused-outcome flat x l h b = refl
 refused-outcome wide x l h b = refl
 refused-outcome (found a) x l h b = absurd (omega arith)
-
-refused-rate : (v : Verdict) → 0 < lapOf v .refusal → judgedRate v ≡ refusedRate (lapOf v .refusal) (lapOf v .place)
-refused-rate (outside k) b = refl
-refused-rate (knotted u) b = refl
-refused-rate flat b = refl
-refused-rate wide b = refl
-refused-rate (found a) b = absurd (omega arith)
 
 -- a verdict other than `outside` is on a table within its limits, whose loops have no more rules than there are transitions
 judged-within : (t : Table) (v : Verdict) → Judges t v → isOutside v ≡ false → Within t
@@ -118,16 +113,6 @@ made-judged t (knotted u) j x l h b = absurd (omega arith)
 made-judged t flat j x l h b = absurd (omega arith)
 made-judged t wide j x l h b = absurd (omega arith)
 made-judged t (found a) j x l h b = made-found (t .n) a x l h (j .2 .schedule .is-schedule .size)
-
-abbrev pub madeRate : Lap → Rated
-madeRate lap = record { refusal = 0; place = 0; exact = lap .exact; low = record { p = lap .low .p; q = lap .low .q }; high = record { p = lap .high .p; q = lap .high .q } }
-
-made-rate : (v : Verdict) → lapOf v .refusal ≤ 0 → madeRate (lapOf v) ≡ judgedRate v
-made-rate (outside k) b = absurd (omega arith)
-made-rate (knotted u) b = absurd (omega arith)
-made-rate flat b = absurd (omega arith)
-made-rate wide b = absurd (omega arith)
-made-rate (found a) b = refl
 
 module _ (t : Table) (lap : Lap) (is : LapOf t lap) where
   number : lap .refusal ≡ lapOf (is .verdict) .refusal
@@ -192,31 +177,18 @@ module _ (t : Table) (lap : Lap) (is : LapOf t lap) where
       let s = judged-short t (is .verdict) (is .judged) in
       (omega (arith, ap (λ (l : Lap). l .low .len) (is .result)), omega (arith, ap (λ (l : Lap). l .high .len) (is .result)))
 
-  -- the rate of u
-  module _ (u : ℕ) (r : Rated) where
-    pub rated-outside : lap .refusal ≡ 3 → r ≡ refusedRate (lap .refusal) (lap .place) → RateOf t u r
-    rated-outside e f =
-        record {
-          verdict = is .verdict;
-          judged = is .judged;
-          result = rw (outside-three (is .verdict) (sym number ∙ e), f, number, position) (sym (refused-rate (is .verdict) (omega (arith, number))));
-        }
+-- what the code makes of the engine's rating
+abbrev pub madeRate : Rating → Rated
+madeRate x =
+    record { refusal = x .refusal; place = x .place; exact = x .exact; low = record { p = x .low .p; q = x .low .q }; high = record { p = x .high .p; q = x .high .q } }
 
-    pub rated-unnamed : lap .refusal ≢ 3 → t .n ≤ u → r ≡ refusedRate 10 (t .n) → RateOf t u r
-    rated-unnamed d b f = record { verdict = is .verdict; judged = is .judged; result = rw (not-three (is .verdict) (λ z. d (number ∙ z)), le-ltb u (t .n) b) f }
+made-rate : (n : ℕ) (x : RateVerdict) → madeRate (ratingOf n x) ≡ ratedOf n x
+made-rate n (bad-field k) = refl
+made-rate n no-name = refl
+made-rate n (knot-at u) = refl
+made-rate n unreached = refl
+made-rate n too-wide = refl
+made-rate n (rated a) = refl
 
-    pub rated-refused : lap .refusal ≢ 3 → u < t .n → 0 < lap .refusal → r ≡ refusedRate (lap .refusal) (lap .place) → RateOf t u r
-    rated-refused d b c f =
-        record {
-          verdict = is .verdict;
-          judged = is .judged;
-          result = rw (not-three (is .verdict) (λ z. d (number ∙ z)), lt-ltb u (t .n) b, f, number, position) (sym (refused-rate (is .verdict) (omega (arith, number))));
-        }
-
-  pub rated-found : (u : ℕ) → lap .refusal ≢ 3 → u < t .n → lap .refusal ≤ 0 → RateOf t u (madeRate lap)
-  rated-found u d b c =
-      record {
-        verdict = is .verdict;
-        judged = is .judged;
-        result = rw (not-three (is .verdict) (λ z. d (number ∙ z)), lt-ltb u (t .n) b) (ap madeRate (is .result) ∙ made-rate (is .verdict) (omega (arith, number)));
-      }
+pub rate-made : (t : Table) (v : ℕ) (x : Rating) → RatingOf t v x → RateOf t v (madeRate x)
+rate-made t v x is = record { verdict = is .verdict; judged = is .judged; result = ap madeRate (is .result) ∙ made-rate (t .n) (is .verdict) }

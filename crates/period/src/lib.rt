@@ -3,7 +3,7 @@ ghost use mathlib.Core.Path.{_≡_};
 ghost use mathlib.Core.List.{_++_};
 ghost use Prim.Native.Nat.{ℕ, _≤_};
 ghost use lib.ListN.{length, take, drop};
-ghost use Rattle.period.specs.Promise.{outcome, refusedAnalysis, refusedRate, AnalysisOf, RateOf};
+ghost use Rattle.period.specs.Promise.{outcome, refusedAnalysis, AnalysisOf, RateOf};
 use table::Table;
 
 // A ratio in lowest terms.
@@ -41,26 +41,11 @@ const RANGE: u32 = 3;
 
 const ROOM: u32 = 8;
 
-const NAME: u32 = 10;
-
 fn refused(refusal: u32, place: usize) -> Analysis
     ensures { λ r. ⌜ r ≡ refusedAnalysis refusal place ⌝ }
 {
     let none = End { p: 0, q: 0, len: 0 };
     Analysis {
-        refusal: refusal,
-        place: place,
-        exact: false,
-        low: none,
-        high: none,
-    }
-}
-
-fn unrated(refusal: u32, place: usize) -> Rated
-    ensures { λ r. ⌜ r ≡ refusedRate refusal place ⌝ }
-{
-    let none = Ratio { p: 0, q: 0 };
-    Rated {
         refusal: refusal,
         place: place,
         exact: false,
@@ -141,36 +126,26 @@ pub fn analyse(t: Table, schedule: &mut [u64], low: &mut [u32], high: &mut [u32]
     }
 }
 
-// The two ends of a transition's rate: those of the table; or refused 3, 10, 5, 6 or 11, in this order.
+// The two ends of a transition's rate: the largest quotient over the loops from which it can be reached; or refused 3, 10, 5, 6 or 11, in this order.
 pub fn rate(t: Table, v: usize) -> Rated
     ensures { λ r. ⌜ RateOf t v r ⌝ }
 {
-    let n = t.n;
-    let lap = engine::measure(t);
-    if lap.refusal == RANGE {
-        return unrated(lap.refusal, lap.place);
-    }
-    if n <= v {
-        return unrated(NAME, n);
-    }
-    if lap.refusal != 0 {
-        return unrated(lap.refusal, lap.place);
-    }
-    let least = lap.low;
-    let greatest = lap.high;
-    let below = Ratio {
+    let rating = engine::rate(t, v);
+    let least = rating.low;
+    let greatest = rating.high;
+    let low = Ratio {
         p: least.p,
         q: least.q,
     };
-    let above = Ratio {
+    let high = Ratio {
         p: greatest.p,
         q: greatest.q,
     };
     Rated {
-        refusal: 0,
-        place: 0,
-        exact: lap.exact,
-        low: below,
-        high: above,
+        refusal: rating.refusal,
+        place: rating.place,
+        exact: rating.exact,
+        low: low,
+        high: high,
     }
 }

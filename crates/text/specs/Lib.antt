@@ -4,3 +4,4 @@ pub mod Text
 pub mod Made
 pub mod Pair
 pub mod Example
+pub mod Rates

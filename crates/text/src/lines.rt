@@ -12,13 +12,13 @@ use crate::put;
 use period::Analysis;
 use period::End;
 
-fn wide_usize(x: usize) -> u64
+pub fn wide_usize(x: usize) -> u64
     ensures { λ r. ⌜ r ≡ x ⌝ }
 {
     x as u64
 }
 
-fn ratio(end: End, out: &mut [u8], at: usize) -> usize
+pub fn ratio(end: End, out: &mut [u8], at: usize) -> usize
     ensures { λ r. ⌜ Puts (Text·ratio (end .p) (end .q)) (now (out .entry)) at (now (out .exit)) r × (r ≤ at + 41) ⌝ }
 {
     let a = put::decimal(end.p, out, at);

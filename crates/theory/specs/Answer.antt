@@ -1,6 +1,6 @@
 -- The whole answer: there is one where every loop turns and there is a loop, and only one.
 --
---   answer-unique, answer-exists
+--   exact-unique, answer-unique, answer-exists
 use mathlib.Core.Path.{_≡_, refl, sym, _∙_}
 use mathlib.Core.Bool.{Bool, true, false}
 use mathlib.Core.Logic.{_⊎_, inl, inr, by-cases, Dec·and}
@@ -29,7 +29,7 @@ answer a b c d e l h x = record { lowP = a; lowQ = b; highP = c; highQ = d; exac
 same : {a b c d a′ b′ c′ d′ : ℕ} {e e′ : Bool} {l h x l′ h′ x′ : List ℕ} → a ≡ a′ → b ≡ b′ → c ≡ c′ → d ≡ d′ → e ≡ e′ → l ≡ l′ → h ≡ h′ → x ≡ x′ → answer a b c d e l h x ≡ answer a′ b′ c′ d′ e′ l′ h′ x′
 same q1 q2 q3 q4 q5 q6 q7 q8 = cc
 
-exact-unique : (a b : Answer) → a .lowP ≡ b .lowP → a .lowQ ≡ b .lowQ → a .highP ≡ b .highP → a .highQ ≡ b .highQ → Exact a → Exact b → a .exact ≡ b .exact
+pub exact-unique : (a b : Answer) → a .lowP ≡ b .lowP → a .lowQ ≡ b .lowQ → a .highP ≡ b .highP → a .highQ ≡ b .highQ → Exact a → Exact b → a .exact ≡ b .exact
 exact-unique a b p q P Q (inl x) (inl y) = x .2 ∙ sym (y .2)
 exact-unique a b p q P Q (inr x) (inr y) = x .1 ∙ sym (y .1)
 exact-unique a b p q P Q (inl x) (inr y) = absurd (y .0 (sym p ∙ x .0 ∙ P, sym q ∙ x .1 ∙ Q))

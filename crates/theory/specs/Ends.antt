@@ -3,6 +3,7 @@
 --   low-unique, high-unique       there is one low end and one high end, from the definition alone
 --   low-is, high-is               blanks at the least give the low end, blanks at the greatest the high end
 --   ends-exist                    where every loop turns and there is one
+--   low-at-least, high-at-greatest    they are the periods with the least and with the greatest delays
 --   given-exact                   without blanks the ends meet, at the period
 --   exact-every, every-exact      the ends meet just where every filling has one and the same period
 --   low-inward, high-inward       filling blanks moves neither end outward
@@ -60,6 +61,22 @@ module _ (S : Shape) (K : Ranges) where
         let (p, q, lp, ll) = period-exists S n fits E M off K.least (λ r b. omega (arith, proper r b, most r b)) live some in
         let (P, Q, hp, hl) = period-exists S n fits E M off K.greatest most live some in
         ((p, q, low-is p q lp ll), (P, Q, high-is P Q hp hl))
+
+    -- AND THEY ARE THE PERIODS WITH THE LEAST AND WITH THE GREATEST DELAYS
+    module _ (n E M : ℕ) (fits : Fits S n) (off : (r : ℕ) → r < S.rules → S.offset r ≤ E) (most : (r : ℕ) → r < S.rules → K.greatest r ≤ M) (live : Live S) where
+      pub low-at-least : (P Q : ℕ) → LowEnd S K P Q → Period S K.least P Q
+      low-at-least P Q a =
+          let x = a .attained .period in
+          let (p, q, i, l) = period-exists S n fits E M off K.least (λ r b. omega (arith, proper r b, most r b)) live (record { at = x .at; loop = x .loop; is-loop = x .is-loop }) in
+          let e = low-unique P Q p q a (low-is p q i l) in
+          rw (e .0, e .1) i
+
+      pub high-at-greatest : (P Q : ℕ) → HighEnd S K P Q → Period S K.greatest P Q
+      high-at-greatest P Q a =
+          let x = a .attained .period in
+          let (p, q, i, l) = period-exists S n fits E M off K.greatest most live (record { at = x .at; loop = x .loop; is-loop = x .is-loop }) in
+          let e = high-unique P Q p q a (high-is p q i l) in
+          rw (e .0, e .1) i
 
   -- WITHOUT BLANKS the ends meet
   pub given-exact : Given S K → (P Q : ℕ) → LowEnd S K P Q → HighEnd S K P Q

@@ -22,3 +22,5 @@ pub mod Thesis
 pub mod Answer
 pub mod Same
 pub mod Near
+pub mod Rate
+pub mod Linear

@@ -48,7 +48,7 @@ walk-first S v k x r rs b e w lowest = record { size = ap suc (w .size); walks =
 abbrev pub Any : ℕ → Type 0
 Any r = Unit {0}
 
-all-any : (rs : List ℕ) → All Any rs
+pub all-any : (rs : List ℕ) → All Any rs
 all-any [] = tt
 all-any (r ∷ rs) = (tt, all-any rs)
 

@@ -1,7 +1,8 @@
 -- Refusal 11 never comes: within the limits every sum is far below 2^63.
 --
---   period-within the period in lowest terms is at most 256,000,000 over at most 3,840
---   never-wide    no sum over a loop or a path is wide, with delays D, at the period with delays E in lowest terms
+--   period-limits     P and Q of a period in lowest terms are small
+--   small-not-wide    at such P/Q no sum over a loop or a path is wide
+--   never-wide        with delays D, at the period with delays E in lowest terms
 use mathlib.Core.Logic.{⊎-elim}
 use Prim.Native.Nat.{ℕ, _+_, _*_, _≤_, _<_, _^_}
 use native.Mathlib.Omega.{arith}
@@ -18,21 +19,22 @@ use Rattle.theory.specs.Sums.{delays-most, offsets-most}
 use Rattle.theory.specs.Loop.{sources-below, length-sources, loop-short}
 use Rattle.theory.specs.Period.{period-small}
 
--- A PERIOD IS SMALL. P and Q are no larger than the sums of the loop that attains the period, which has at most 256 rules.
-pub period-within : (S : Shape) (E : ℕ → ℕ) (n P Q : ℕ) → n ≤ 256 → Fits S n → ((r : ℕ) → r < S.rules → S.offset r ≤ 15) → ((r : ℕ) → r < S.rules → E r ≤ 1000000)
+-- P and Q are no larger than the sums of the loop that attains the period
+pub period-limits : (S : Shape) (E : ℕ → ℕ) (n P Q : ℕ) → n ≤ 256 → Fits S n → ((r : ℕ) → r < S.rules → S.offset r ≤ 15) → ((r : ℕ) → r < S.rules → E r ≤ 1000000)
     → Period S E P Q → Lowest P Q → (P ≤ 256000000) × (Q ≤ 3840)
-period-within S E n P Q few fits o d p low =
-    let small = period-small S E P Q p low in
-    let short = loop-short S n fits (p .at) (p .loop) (p .is-loop) in (
-      omega (arith, small .1, delays-most S E 1000000 d (p .at) (p .at) (p .loop) (p .is-loop .closed), short),
-      omega (arith, small .0, offsets-most S 15 o (p .at) (p .at) (p .loop) (p .is-loop .closed), short),
-    )
+period-limits S E n P Q few fits o d p low = (
+  omega (arith, period-small S E P Q p low .1, delays-most S E 1000000 d (p .at) (p .at) (p .loop) (p .is-loop .closed), ln),
+  omega (arith, period-small S E P Q p low .0, offsets-most S 15 o (p .at) (p .at) (p .loop) (p .is-loop .closed), ln),
+)
+  where
+    ln : length (p .loop) ≤ 256
+    ln = omega (arith, loop-short S n fits (p .at) (p .loop) (p .is-loop))
 
--- NEVER WIDE. A path or a loop has at most 256 rules, so delays sum to at most 256,000,000 and offsets to at most 3,840; so do P and Q; and products of
--- such are below 2^63.
-pub never-wide : (S : Shape) (D E : ℕ → ℕ) (n P Q : ℕ) → n ≤ 256 → Fits S n → ((r : ℕ) → r < S.rules → S.offset r ≤ 15) → ((r : ℕ) → r < S.rules → D r ≤ 1000000)
-    → ((r : ℕ) → r < S.rules → E r ≤ 1000000) → Period S E P Q → Lowest P Q → ¬ (WideSum (2 ^ 63) S D P Q)
-never-wide S D E n P Q few fits o d d′ p low x =
+-- NEVER WIDE. A path or a loop has at most 256 rules, so delays sum to at most 256,000,000 and offsets to at most 3,840; and products of such with P and
+-- Q of that size are below 2^63.
+pub small-not-wide : (S : Shape) (D : ℕ → ℕ) (n P Q : ℕ) → n ≤ 256 → Fits S n → ((r : ℕ) → r < S.rules → S.offset r ≤ 15) → ((r : ℕ) → r < S.rules → D r ≤ 1000000)
+    → (P ≤ 256000000) × (Q ≤ 3840) → ¬ (WideSum (2 ^ 63) S D P Q)
+small-not-wide S D n P Q few fits o d small x =
     ⊎-elim (λ h. omega (arith, d1)) (λ h. ⊎-elim (λ h. omega (arith, o1)) (λ h. ⊎-elim (λ h. omega (arith, qd)) (λ h. omega (arith, po)) h) h) (x .big)
   where
     len : length (x .rs) ≤ 256
@@ -44,11 +46,12 @@ never-wide S D E n P Q few fits o d d′ p low x =
     d1 : delays D (x .rs) ≤ 256000000
     d1 = omega (arith, delays-most S D 1000000 d (x .u) (x .w) (x .rs) (x .walks), len)
 
-    pq : (P ≤ 256000000) × (Q ≤ 3840)
-    pq = period-within S E n P Q few fits o d′ p low
-
     qd : Q * delays D (x .rs) ≤ 3840 * 256000000
-    qd = mul-le-mul (pq .1) d1
+    qd = mul-le-mul (small .1) d1
 
     po : P * offsets S (x .rs) ≤ 256000000 * 3840
-    po = mul-le-mul (pq .0) o1
+    po = mul-le-mul (small .0) o1
+
+pub never-wide : (S : Shape) (D E : ℕ → ℕ) (n P Q : ℕ) → n ≤ 256 → Fits S n → ((r : ℕ) → r < S.rules → S.offset r ≤ 15) → ((r : ℕ) → r < S.rules → D r ≤ 1000000)
+    → ((r : ℕ) → r < S.rules → E r ≤ 1000000) → Period S E P Q → Lowest P Q → ¬ (WideSum (2 ^ 63) S D P Q)
+never-wide S D E n P Q few fits o d d′ p low = small-not-wide S D n P Q few fits o d (period-limits S E n P Q few fits o d′ p low)

@@ -64,6 +64,8 @@ pub const LIMIT_FILE_CALLS: [&str; 4] = [
 const P1: &str = "n 2: 0>1/0/3, 1>0/1/4";
 const P5: &str = "n 1: 0>0/1/?";
 const P7: &str = "n 1: 0>0/0/0";
+/// A front end of lap 3 that feeds a loop of lap 10, one transition behind both, one before them, one beside them.
+const FRONT: &str = "n 7: 0>1/0/1, 1>0/1/2, 1>2/0/5, 2>3/0/4, 3>2/1/6, 3>4/0/1, 5>0/0/9, 6>6/1/?";
 const SLOW: &str = "n 1: 0>0/1/7";
 const LOOP_AND_RANGE: &str = "n 1: 0>0/0/0, 0>0/16/1";
 const FLAT_AND_RANGE: &str = "n 2: 0>1/16/5";
@@ -71,7 +73,7 @@ const TARGET_OUT: &str = "n 2: 0>2/1/5";
 
 /// Name, table, call. A table within the limits is also handed in as its file, but for writing.
 #[rustfmt::skip] // One case a line.
-pub const TABLES: [(&str, &str, &str); 82] = [
+pub const TABLES: [(&str, &str, &str); 89] = [
     ("worked P1", P1, "analyse 3 3 3"),
     ("worked P1, three occurrences", P1, "simulate 3 7"),
     ("worked P2", "n 2: 0>1/0/3, 1>0/2/4", "analyse 3 3 3"),
@@ -109,6 +111,14 @@ pub const TABLES: [(&str, &str, &str); 82] = [
     ("rate of the last transition", "n 256: 255>255/1/7", "rate 255"),
     ("rate of a transition too many", "n 256: 255>255/1/7", "rate 256"),
     ("rate, a range", "n 2: 0>1/0/3, 1>0/1/?", "rate 1"),
+    ("rate of a front end", FRONT, "rate 1"),
+    ("rate of what it feeds", FRONT, "rate 2"),
+    ("rate behind both", FRONT, "rate 4"),
+    ("rate before both", FRONT, "rate 5"),
+    ("rate beside both", FRONT, "rate 6"),
+    ("rate behind a slower front end", "n 2: 0>0/1/10, 0>1/0/0, 1>1/1/3", "rate 1"),
+    ("rate of a transition without rules", "n 3: 0>0/1/5, 0>1/0/1", "rate 2"),
+    ("rate, a loop of offset 0 elsewhere", "n 2: 0>0/1/5, 1>1/0/1", "rate 0"),
     ("lowest transition on a loop of offset 0", "n 4: 1>1/1/1, 0>1/0/1, 3>2/0/1, 2>3/0/?", "analyse 4 4 4"),
     ("the same by rate", "n 4: 1>1/1/1, 0>1/0/1, 3>2/0/1, 2>3/0/?", "rate 0"),
     ("the same by simulation", "n 4: 1>1/1/1, 0>1/0/1, 3>2/0/1, 2>3/0/1", "simulate 1 4"),

@@ -76,10 +76,20 @@ fn main() {
     cases.finish();
 }
 
+/// A transition on the published loop, whose rate is the published period: the source of the loop's first rule.
+fn on_the_loop(case: &Vector) -> Option<usize> {
+    let high = case
+        .report
+        .lines()
+        .find_map(|line| line.strip_prefix("high "))?;
+    let first: usize = high.split(' ').next()?.parse().ok()?;
+    Some(case.table.rule(first).source as usize)
+}
+
 fn published(cases: &mut Cases, case: &Vector) {
     let (name, n, m) = (&case.name, case.table.n as usize, case.table.m as usize);
     let analyse = format!("analyse {0} {0} {0}", n + 1);
-    let rate = format!("rate {}", n - 1);
+    let rate = format!("rate {}", on_the_loop(case).unwrap_or(n - 1));
     let read = format!("read {0} {0} {0} {0} {0}", m + 1);
     cases.file(&format!("{name}, read"), &case.file, &read);
     cases.table(

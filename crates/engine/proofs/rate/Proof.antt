@@ -1,0 +1,98 @@
+-- `rate` meets its contract: the lap of the steered rules is the rate (`rating-lap`).
+-- Assumes nothing.
+use mathlib.Core.Path.{sym, subst}
+use native.Mathlib.Omega.{arith}
+use Rattle.engine.specs.Lay.{judged-outside, judged-within, laid-limits, laid-ordered}
+use Rattle.engine.specs.Reach.{within-limits, steers-offsets, limits-steered}
+use Rattle.engine.specs.Rate.{RatingOf, rating-outside, rating-unnamed, rating-knotted, rating-lap}
+use borrow.Author.Needs.{needs}
+use Rattle.engine.proofs.rate.Statement.{statement}
+use Rattle.engine.proofs.rate.Tie as tie
+
+check-requires : tie.Need-check-requires
+check-requires c κs = search needs
+
+unrated-requires : tie.Need-unrated-requires
+unrated-requires c κs = search needs
+
+returns : tie.Need-returns
+returns c = let k = c .before .before .before in rating-outside _ _ _ _ _ (judged-outside _ _ (k .check .ensures) (c .before .if1 .taken)) (c .unrated .ensures)
+
+unrated-requires-2 : tie.Need-unrated-requires-2
+unrated-requires-2 c κs = search needs
+
+returns-2 : tie.Need-returns-2
+returns-2 c =
+    let k = c .before .before .before .before in
+    rating-unnamed (k .before .args .t) (judged-within (k .before .args .t) _ (k .check .ensures) (c .before .before .if1 .left)) _ _ (c .before .if2 .taken) (c .unrated2 .ensures)
+
+lay-requires : tie.Need-lay-requires
+lay-requires c κs = judged-within _ _ (c .before .before .before .check .ensures) (c .before .if1 .left)
+
+zero-loop-requires : tie.Need-zero-loop-requires
+zero-loop-requires c κs =
+    let e = c .before .before .before .before .before .before .before in
+    let k = e .before .before .before in
+    let t = k .before .args .t in
+    let w = judged-within t _ (k .check .ensures) (e .before .if1 .left) in
+    laid-limits t w _ _ _ _ _ _ (c .before .before .before .before .before .before .lay .ensures)
+
+unrated-requires-3 : tie.Need-unrated-requires-3
+unrated-requires-3 c κs = search needs
+
+returns-3 : tie.Need-returns-3
+returns-3 c =
+    let e = c .before .before .before .before .before .before .before .before .before .before .before in
+    let k = e .before .before .before in
+    let t = k .before .args .t in
+    let w = judged-within t _ (k .check .ensures) (e .before .if1 .left) in
+    rating-knotted t w _ (e .if2 .left) _ _ _ _ _ _ (c .before .before .before .before .before .before .before .before .before .before .lay .ensures) _ _ _ (c .before .before .before .zero-loop .ensures) _ (c .before .if3 .taken) (c .unrated3 .ensures)
+
+toward-requires : tie.Need-toward-requires
+toward-requires c κs =
+    let e = c .before .before .before .before .before .before .before .before .before .before .before .before in
+    let k = e .before .before .before in
+    let t = k .before .args .t in
+    let w = judged-within t _ (k .check .ensures) (e .before .if1 .left) in
+    let l = laid-limits t w _ _ _ _ _ _ (c .before .before .before .before .before .before .before .before .before .before .before .lay .ensures) in
+    (within-limits _ _ _ _ _ l, omega (arith, e .if2 .left, l .few-transitions))
+
+laps-requires : tie.Need-laps-requires
+laps-requires c κs =
+    let e = c .before .before .before .before .before .before .before .before .before .before .before .before .before .before .before .before .before .before .before .before in
+    let k = e .before .before .before in
+    let t = k .before .args .t in
+    let w = judged-within t _ (k .check .ensures) (e .before .if1 .left) in
+    let y = c .before .before .before .before .before .before .before .before .before .before .before .before .before .before .before .before .before .before .before .lay .ensures in
+    (limits-steered _ _ _ _ _ _ (c .before .before .before .before .before .before .before .toward .result) (laid-limits t w _ _ _ _ _ _ y) (e .if2 .left) (c .before .before .before .before .before .before .before .toward .ensures), laid-ordered t w _ _ _ _ _ _ y)
+
+rated-requires : tie.Need-rated-requires
+rated-requires c κs = search needs
+
+returns-4 : tie.Need-returns-4
+returns-4 c =
+    let e = c .before .before .before .before .before .before .before .before .before .before .before .before .before .before .before .before .before .before .before .before .before .before in
+    let k = e .before .before .before in
+    let t = k .before .args .t in
+    let w = judged-within t _ (k .check .ensures) (e .before .if1 .left) in
+    let y = c .before .before .before .before .before .before .before .before .before .before .before .before .before .before .before .before .before .before .before .before .before .lay .ensures in
+    let s = steers-offsets _ _ _ _ _ _ (c .before .before .before .before .before .before .before .before .before .toward .result) (laid-limits t w _ _ _ _ _ _ y) (e .if2 .left) (c .before .before .before .before .before .before .before .before .before .toward .ensures) in
+    subst (RatingOf t _) (sym (c .rated .ensures)) (rating-lap t w _ (e .if2 .left) _ _ _ _ _ _ y _ _ _ (c .before .before .before .before .before .before .before .before .before .before .before .before .before .before .zero-loop .ensures) (c .before .before .before .before .before .before .before .before .before .before .before .before .if3 .left) (c .before .before .before .before .before .before .before .before .before .toward .result) s _ (c .before .laps .ensures))
+
+pub rate-spec : {M : Type 1} → statement M
+rate-spec =
+    tie.close
+    (tie.spec
+    check-requires
+    unrated-requires
+    returns
+    unrated-requires-2
+    returns-2
+    lay-requires
+    zero-loop-requires
+    unrated-requires-3
+    returns-3
+    toward-requires
+    laps-requires
+    rated-requires
+    returns-4)

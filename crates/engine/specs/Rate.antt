@@ -1,0 +1,222 @@
+-- The rate of one transition of a table: the verdict, and what `rate` hands back for it.
+--
+--   RateVerdict             == a field is outside the limits; the transition is none of the table's; a loop has no turn; no loop reaches the transition;
+--                              a sum is too wide; or the range of its rate
+--   WideRate S K a          == a sum is too wide: with every delay at its least at the low end, or at its greatest at the high end
+--   JudgesRate t v x        == x is the verdict on the rate of transition v of the table t
+--   refusedRating f p       == refused with number f at place p: all else 0
+--   ratingOf n x            == what is handed back for the verdict x, where n is the table's: numbers of refusal are the paper's
+--   RatingOf t v r          == THE PROMISE of `rate`
+--
+-- Theorems: rate-never-wide (refusal 11 never comes), rate-verdict-exists, rate-verdict-unique, rating-unique (one outcome).
+use mathlib.Core.Path.{_≡_, refl, sym, ap, _∙_, subst}
+use mathlib.Core.Bool.{Bool, true, false}
+use mathlib.Core.Logic.{_⊎_, ⊎-elim, by-cases}
+use mathlib.Core.List.{List, []}
+use Prim.Native.Nat.{ℕ, _≤_, _<_, _^_}
+use native.Mathlib.Omega.{arith}
+use native.Mathlib.Decide.{decLt}
+use lib.ListN.{getD, take}
+use Rattle.model.specs.Shape.{Shape}
+use Rattle.model.specs.Loop.{NoLoop, Live}
+use Rattle.model.specs.Knot.{Knot}
+use Rattle.model.specs.Ratio.{Lowest}
+use Rattle.model.specs.Filling.{Ranges, Filling}
+use Rattle.model.specs.Wide.{WideSum}
+use Rattle.model.specs.Answer.{Answer, Answers}
+use Rattle.model.specs.Rate.{SomeLoopTo, NoLoopTo, Rate, RateRange, Rates}
+use Rattle.theory.specs.Filling.{Proper, ranges-proper}
+use Rattle.theory.specs.Knot.{knot-unique, knot-not-live, knot-or-live, loop-or-none, first-knot}
+use Rattle.theory.specs.Same.{answers-same}
+use Rattle.theory.specs.Wide.{period-limits, small-not-wide}
+use Rattle.theory.specs.Rate.{steered, Steers, steering, rate-steered, low-plain, high-plain, live-steered, none-plain, some-plain, fits-steered, rates-unique, rates-exist}
+use Rattle.table.specs.declared.Table.{Table}
+use Rattle.table.specs.Limits.{maxOffset, maxDelay}
+use Rattle.table.specs.Form.{unusedRule}
+use Rattle.table.specs.Fields.{Within, FirstBad, within-or-first-bad, within-not-bad, first-bad-unique}
+use Rattle.table.specs.Meaning.{used, delayOf, shapeOf, rangesOf, within-fits, within-offsets, within-delays}
+use Rattle.engine.specs.declared.Ratio.{Ratio}
+use Rattle.engine.specs.declared.Rating.{Rating}
+use Rattle.engine.specs.declared.Lap.{Lap}
+use Rattle.engine.specs.Columns.{shape}
+use Rattle.engine.specs.Found.{FoundFirst}
+use Rattle.engine.specs.Lay.{Laid, laid-shape, laid-least, laid-greatest}
+use Rattle.engine.specs.Verdict.{Verdict, outside, knotted, flat, wide, found}
+use Rattle.engine.specs.Lap.{lapOf, rangesIn, JudgesIn, LapIn, ends-live}
+
+pub data RateVerdict : Type 0 where
+  bad-field : ℕ → RateVerdict
+  no-name : RateVerdict
+  knot-at : ℕ → RateVerdict
+  unreached : RateVerdict
+  too-wide : RateVerdict
+  rated : RateRange → RateVerdict
+
+abbrev pub WideRate : Shape → Ranges → RateRange → Type 0
+WideRate S K a = WideSum (2 ^ 63) S K.least (a .lowP) (a .lowQ) ⊎ WideSum (2 ^ 63) S K.greatest (a .highP) (a .highQ)
+
+-- each case in the paper's order: what is judged later asks that nothing before it was met
+abbrev pub JudgesRate : Table → ℕ → RateVerdict → Type 0
+JudgesRate t v (bad-field k) = FirstBad t k
+JudgesRate t v no-name = Within t × (t .n ≤ v)
+JudgesRate t v (knot-at u) = Within t × (v < t .n) × Knot (shapeOf t) u
+JudgesRate t v unreached = Within t × (v < t .n) × Live (shapeOf t) × NoLoopTo (shapeOf t) v
+JudgesRate t v too-wide = Within t × (v < t .n) × Live (shapeOf t) × ((a : RateRange) × Rates (shapeOf t) (rangesOf t) v a × WideRate (shapeOf t) (rangesOf t) a)
+JudgesRate t v (rated a) = Within t × (v < t .n) × Live (shapeOf t) × Rates (shapeOf t) (rangesOf t) v a × (¬ (WideRate (shapeOf t) (rangesOf t) a))
+
+abbrev pub refusedRating : ℕ → ℕ → Rating
+refusedRating f p = record { refusal = f; place = p; exact = false; low = record { p = 0; q = 0 }; high = record { p = 0; q = 0 } }
+
+abbrev pub ratedRating : RateRange → Rating
+ratedRating a = record { refusal = 0; place = 0; exact = a .exact; low = record { p = a .lowP; q = a .lowQ }; high = record { p = a .highP; q = a .highQ } }
+
+abbrev pub ratingOf : ℕ → RateVerdict → Rating
+ratingOf n (bad-field k) = refusedRating 3 k
+ratingOf n no-name = refusedRating 10 n
+ratingOf n (knot-at u) = refusedRating 5 u
+ratingOf n unreached = refusedRating 6 0
+ratingOf n too-wide = refusedRating 11 0
+ratingOf n (rated a) = ratedRating a
+
+pub record RatingOf (t : Table) (v : ℕ) (r : Rating) : Type 0 where
+  pub verdict : RateVerdict
+  pub judged : JudgesRate t v verdict
+  pub result : r ≡ ratingOf (t .n) verdict
+
+-- ------------------------------------------------------------------------------------------------------------------------- one verdict, and there
+
+proper : (t : Table) → Proper (shapeOf t) (rangesOf t)
+proper t = ranges-proper (shapeOf t) maxDelay (λ r. delayOf (getD (used t) r unusedRule .delay))
+
+-- NEVER WIDE: the rate is the period of the steered rules, which have the same offsets and delays
+pub rate-never-wide : (t : Table) → Within t → (v : ℕ) → v < t .n → (a : RateRange) → Rates (shapeOf t) (rangesOf t) v a → ¬ (WideRate (shapeOf t) (rangesOf t) a)
+rate-never-wide t w v b a x =
+    ⊎-elim
+    (small-not-wide (shapeOf t) (rangesOf t .least) (t .n) (a .lowP) (a .lowQ) (w .n-high) (within-fits t w) (within-offsets t w) least
+    (small (x .low .attained .D) (x .low .attained .fills) (a .lowP) (a .lowQ) (x .low .attained .rate) (x .low .attained .lowest)))
+    (small-not-wide (shapeOf t) (rangesOf t .greatest) (t .n) (a .highP) (a .highQ) (w .n-high) (within-fits t w) (within-offsets t w) (within-delays t w)
+    (small (x .high .attained .D) (x .high .attained .fills) (a .highP) (a .highQ) (x .high .attained .rate) (x .high .attained .lowest)))
+  where
+    least : (r : ℕ) → r < t .m → rangesOf t .least r ≤ 1000000
+    least r b = omega (arith, within-delays t w r b, proper t r b)
+
+    small : (D : ℕ → ℕ) → Filling (shapeOf t) (rangesOf t) D → (P Q : ℕ) → Rate (shapeOf t) D v P Q → Lowest P Q → (P ≤ 256000000) × (Q ≤ 3840)
+    small D fills P Q rate low =
+        let (f, s) = steering (shapeOf t) (t .n) (within-fits t w) v in
+        period-limits (steered (shapeOf t) f) D (t .n) P Q (w .n-high) (fits-steered (shapeOf t) v f s (t .n) b (within-fits t w)) (within-offsets t w)
+        (λ r l. omega (arith, fills r l, within-delays t w r l)) (rate-steered (shapeOf t) v f s D P Q rate) low
+
+-- THERE IS A VERDICT
+pub rate-verdict-exists : (t : Table) (v : ℕ) → (x : RateVerdict) × JudgesRate t v x
+rate-verdict-exists t v = ⊎-elim inside (λ b. (bad-field (b .0), b .1)) (within-or-first-bad t)
+  where
+    answer : Within t → v < t .n → Live (shapeOf t) → SomeLoopTo (shapeOf t) v → (x : RateVerdict) × JudgesRate t v x
+    answer w b live some =
+        let (a, x) = rates-exist (shapeOf t) (t .n) (within-fits t w) v (rangesOf t) (proper t) b maxOffset maxDelay (within-offsets t w) (within-delays t w) live some in
+        (rated a, (w, b, live, x, rate-never-wide t w v b a x))
+
+    named : Within t → v < t .n → (x : RateVerdict) × JudgesRate t v x
+    named w b =
+        let (f, s) = steering (shapeOf t) (t .n) (within-fits t w) v in
+        ⊎-elim
+        (λ k. (knot-at (k .0), (w, b, k .1)))
+        (λ live. ⊎-elim (λ l. answer w b live (some-plain (shapeOf t) v f s l)) (λ none. (unreached, (w, b, live, none-plain (shapeOf t) v f s none)))
+        (loop-or-none (steered (shapeOf t) f) (t .n) (fits-steered (shapeOf t) v f s (t .n) b (within-fits t w))))
+        (knot-or-live (shapeOf t) (t .n) (within-fits t w))
+
+    inside : Within t → (x : RateVerdict) × JudgesRate t v x
+    inside w = by-cases (decLt v (t .n)) (named w) (λ b. (no-name, (w, omega arith)))
+
+-- a range speaks of a loop
+rates-loop : (S : Shape) (K : Ranges) (v : ℕ) (a : RateRange) → Rates S K v a → ¬ (NoLoopTo S v)
+rates-loop S K v a x none = let r = x .low .attained .rate in none (r .at) (r .loop) (r .is-loop-to)
+
+-- ONLY ONE
+pub rate-verdict-unique : (t : Table) (v : ℕ) (x y : RateVerdict) → JudgesRate t v x → JudgesRate t v y → x ≡ y
+rate-verdict-unique t v (bad-field j) (bad-field k) a b = ap bad-field (first-bad-unique t j k a b)
+rate-verdict-unique t v (bad-field j) no-name a b = absurd (within-not-bad t j (b .0) a)
+rate-verdict-unique t v (bad-field j) (knot-at u) a b = absurd (within-not-bad t j (b .0) a)
+rate-verdict-unique t v (bad-field j) unreached a b = absurd (within-not-bad t j (b .0) a)
+rate-verdict-unique t v (bad-field j) too-wide a b = absurd (within-not-bad t j (b .0) a)
+rate-verdict-unique t v (bad-field j) (rated y) a b = absurd (within-not-bad t j (b .0) a)
+rate-verdict-unique t v no-name (bad-field k) a b = absurd (within-not-bad t k (a .0) b)
+rate-verdict-unique t v no-name no-name a b = refl
+rate-verdict-unique t v no-name (knot-at u) a b = absurd (omega (arith, b .1))
+rate-verdict-unique t v no-name unreached a b = absurd (omega (arith, b .1))
+rate-verdict-unique t v no-name too-wide a b = absurd (omega (arith, b .1))
+rate-verdict-unique t v no-name (rated y) a b = absurd (omega (arith, b .1))
+rate-verdict-unique t v (knot-at u) (bad-field k) a b = absurd (within-not-bad t k (a .0) b)
+rate-verdict-unique t v (knot-at u) no-name a b = absurd (omega (arith, a .1))
+rate-verdict-unique t v (knot-at u) (knot-at w) a b = ap knot-at (knot-unique (shapeOf t) u w (a .2) (b .2))
+rate-verdict-unique t v (knot-at u) unreached a b = absurd (knot-not-live (shapeOf t) u (a .2) (b .2))
+rate-verdict-unique t v (knot-at u) too-wide a b = absurd (knot-not-live (shapeOf t) u (a .2) (b .2))
+rate-verdict-unique t v (knot-at u) (rated y) a b = absurd (knot-not-live (shapeOf t) u (a .2) (b .2))
+rate-verdict-unique t v unreached (bad-field k) a b = absurd (within-not-bad t k (a .0) b)
+rate-verdict-unique t v unreached no-name a b = absurd (omega (arith, a .1))
+rate-verdict-unique t v unreached (knot-at w) a b = absurd (knot-not-live (shapeOf t) w (b .2) (a .2))
+rate-verdict-unique t v unreached unreached a b = refl
+rate-verdict-unique t v unreached too-wide a b = absurd (rate-never-wide t (b .0) v (b .1) (b .3 .0) (b .3 .1) (b .3 .2))
+rate-verdict-unique t v unreached (rated y) a b = absurd (rates-loop (shapeOf t) (rangesOf t) v y (b .3) (a .3))
+rate-verdict-unique t v too-wide y a b = absurd (rate-never-wide t (a .0) v (a .1) (a .3 .0) (a .3 .1) (a .3 .2))
+rate-verdict-unique t v (rated x) (bad-field k) a b = absurd (within-not-bad t k (a .0) b)
+rate-verdict-unique t v (rated x) no-name a b = absurd (omega (arith, a .1))
+rate-verdict-unique t v (rated x) (knot-at w) a b = absurd (knot-not-live (shapeOf t) w (b .2) (a .2))
+rate-verdict-unique t v (rated x) unreached a b = absurd (rates-loop (shapeOf t) (rangesOf t) v x (a .3) (b .3))
+rate-verdict-unique t v (rated x) too-wide a b = absurd (rate-never-wide t (b .0) v (b .1) (b .3 .0) (b .3 .1) (b .3 .2))
+rate-verdict-unique t v (rated x) (rated y) a b = ap rated (rates-unique (shapeOf t) (t .n) (within-fits t (a .0)) v (rangesOf t) x y (a .3) (b .3))
+
+-- ONLY ONE OUTCOME
+pub rating-unique : (t : Table) (v : ℕ) (r s : Rating) → RatingOf t v r → RatingOf t v s → r ≡ s
+rating-unique t v r s a b = a .result ∙ ap (ratingOf (t .n)) (rate-verdict-unique t v (a .verdict) (b .verdict) (a .judged) (b .judged)) ∙ sym (b .result)
+
+-- ---------------------------------------------------------------------------------------------------------------------------- how the code ends
+
+pub rating-outside : (t : Table) (v f k : ℕ) (r : Rating) → FirstBad t k × (f ≡ 3) → r ≡ refusedRating f k → RatingOf t v r
+rating-outside t v f k r b e = record { verdict = bad-field k; judged = b .0; result = e ∙ ap (λ x. refusedRating x k) (b .1) }
+
+pub rating-unnamed : (t : Table) → Within t → (v : ℕ) (r : Rating) → t .n ≤ v → r ≡ refusedRating 10 (t .n) → RatingOf t v r
+rating-unnamed t w v r b e = record { verdict = no-name; judged = (w, b); result = e }
+
+-- what is made of the lap of the steered rules
+abbrev pub madeRating : Lap → Rating
+madeRating lap =
+    record { refusal = lap .refusal; place = lap .place; exact = lap .exact; low = record { p = lap .low .p; q = lap .low .q }; high = record { p = lap .high .p; q = lap .high .q } }
+
+module _ (t : Table) (w : Within t) (v : ℕ) (b : v < t .n) (s g o l h : List ℕ) (k : Bool) (c : Laid t (t .m) s g o l h k)
+    (len at : ℕ) (rules : List ℕ) (zero : FoundFirst (shape s g o (t .m)) (λ i. getD o i 0 ≡ 0) (t .n) len at rules) where
+  pub rating-knotted : (r : Rating) → 0 < len → r ≡ refusedRating 5 at → RatingOf t v r
+  rating-knotted r some e =
+      record { verdict = knot-at at; judged = (w, b, subst (λ (S : Shape). Knot S at) (laid-shape t s g o l h k c) (first-knot (shape s g o (t .m)) at (take len rules) (zero .some some))); result = e }
+
+  -- THE LAP OF THE STEERED RULES IS THE RATE
+  module _ (none : len ≤ 0) (f : List ℕ) (steers : Steers (shape s g o (t .m)) v (λ r. getD f r 0)) where
+    live : Live (shape s g o (t .m))
+    live = ends-live zero none
+
+    abbrev range : Answer → RateRange
+    range a = record { lowP = a .lowP; lowQ = a .lowQ; highP = a .highP; highQ = a .highQ; exact = a .exact }
+
+    by-verdict : (lap : Lap) (x : Verdict) → JudgesIn (shape f g o (t .m)) (rangesIn l h) (t .n) x → lap ≡ lapOf x → RatingOf t v (madeRating lap)
+    by-verdict lap (outside j) i e = absurd i
+    by-verdict lap (knotted u) i e = absurd (knot-not-live (shape f g o (t .m)) u i (live-steered (shape s g o (t .m)) v (λ r. getD f r 0) steers live))
+    by-verdict lap flat i e =
+        let z = subst (λ (S : Shape). Live S × NoLoopTo S v) (laid-shape t s g o l h k c) (live, none-plain (shape s g o (t .m)) v (λ r. getD f r 0) steers (i .1)) in
+        record { verdict = unreached; judged = (w, b, z .0, z .1); result = ap madeRating e }
+    by-verdict lap wide i e = absurd i
+    by-verdict lap (found a) i e =
+        let x = answers-same (shape f g o (t .m)) (rangesIn l h) (rangesOf t) (laid-least t s g o l h k c) (laid-greatest t s g o l h k c) (t .n) a (i .1) in
+        let y : Rates (shape s g o (t .m)) (rangesOf t) v (range a) =
+        record {
+          low = low-plain (shape s g o (t .m)) v (λ r. getD f r 0) steers (rangesOf t) (a .lowP) (a .lowQ) (x .low);
+          high = high-plain (shape s g o (t .m)) v (λ r. getD f r 0) steers (rangesOf t) (a .highP) (a .highQ) (x .high);
+          meet = x .meet;
+        } in
+        let z = subst (λ (S : Shape). Live S × Rates S (rangesOf t) v (range a)) (laid-shape t s g o l h k c) (live, y) in
+        record {
+          verdict = rated (range a);
+          judged = (w, b, z .0, z .1, rate-never-wide t w v b _ (z .1));
+          result = ap madeRating e;
+        }
+
+    pub rating-lap : (lap : Lap) → LapIn (shape f g o (t .m)) (rangesIn l h) (t .n) lap → RatingOf t v (madeRating lap)
+    rating-lap lap x = by-verdict lap (x .verdict) (x .judged) (x .result)

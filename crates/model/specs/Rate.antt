@@ -1,0 +1,84 @@
+-- The rate of a transition: the largest, over the loops from which it can be reached along rules, of (sum of delays) / (sum of offsets).
+-- A loop is the same loop from whichever of its transitions it is read, so that a way from where it is read is a way from any of them.
+--
+--   Reaches S u v        == rules lead from transition u to transition v: none are needed where u is v
+--   LoopTo S v u rs      == rs, read from u, is a loop that reaches v
+--   SomeLoopTo S v       == there is one
+--   NoLoopTo S v         == there is none
+--   Rate S D v P Q       == P/Q is the rate of v with the delays D, in some terms
+--   RateAttained S K v P Q   == with some filling v has the rate P/Q, in lowest terms
+--   LowRate S K v P Q    == P/Q is the least rate of v over all fillings
+--   HighRate S K v P Q   == P/Q is the greatest
+--   RateRange            == the two ends of a rate, and whether they meet
+--   Rates S K v a        == a is the range of the rate of v
+use mathlib.Core.Path.{_≡_}
+use mathlib.Core.Bool.{Bool, true, false}
+use mathlib.Core.Logic.{_⊎_}
+use mathlib.Core.List.{List}
+use Prim.Native.Nat.{ℕ, _*_, _≤_, _<_}
+use Rattle.model.specs.Shape.{Shape}
+use Rattle.model.specs.Sums.{offsets}
+use Rattle.model.specs.Walk.{Walk}
+use Rattle.model.specs.Loop.{Loop}
+use Rattle.model.specs.Ratio.{Lowest}
+use Rattle.model.specs.Period.{Attains, NotAbove}
+use Rattle.model.specs.Filling.{Ranges, Filling}
+
+pub record Reaches (S : Shape) (u v : ℕ) : Type 0 where
+  pub way : List ℕ
+  pub leads : Walk S u v way
+
+-- a loop on which v lies reaches v: read from v, no rule more is needed
+pub record LoopTo (S : Shape) (v u : ℕ) (rs : List ℕ) : Type 0 where
+  pub is-loop : Loop S u rs
+  pub reaches : Reaches S u v
+
+pub record SomeLoopTo (S : Shape) (v : ℕ) : Type 0 where
+  pub at : ℕ
+  pub loop : List ℕ
+  pub is-loop-to : LoopTo S v at loop
+
+abbrev pub NoLoopTo : Shape → ℕ → Type 0
+NoLoopTo S v = (u : ℕ) (rs : List ℕ) → ¬ (LoopTo S v u rs)
+
+-- a loop that reaches v and has a turn attains P/Q, and no loop that reaches v is above it
+pub record Rate (S : Shape) (D : ℕ → ℕ) (v P Q : ℕ) : Type 0 where
+  pub Q-pos : 0 < Q
+  pub at : ℕ
+  pub loop : List ℕ
+  pub is-loop-to : LoopTo S v at loop
+  pub turns : 0 < offsets S loop
+  pub attained : Attains S D P Q loop
+  pub highest : (u : ℕ) (rs : List ℕ) → LoopTo S v u rs → NotAbove S D P Q rs
+
+-- ---------------------------------------------------------------------------------------------------------------------------- over all fillings
+
+pub record RateAttained (S : Shape) (K : Ranges) (v P Q : ℕ) : Type 0 where
+  pub D : ℕ → ℕ
+  pub fills : Filling S K D
+  pub rate : Rate S D v P Q
+  pub lowest : Lowest P Q
+
+pub record LowRate (S : Shape) (K : Ranges) (v P Q : ℕ) : Type 0 where
+  pub attained : RateAttained S K v P Q
+  pub least : (E : ℕ → ℕ) → Filling S K E → (P′ Q′ : ℕ) → Rate S E v P′ Q′ → P * Q′ ≤ P′ * Q
+
+pub record HighRate (S : Shape) (K : Ranges) (v P Q : ℕ) : Type 0 where
+  pub attained : RateAttained S K v P Q
+  pub greatest : (E : ℕ → ℕ) → Filling S K E → (P′ Q′ : ℕ) → Rate S E v P′ Q′ → P′ * Q ≤ P * Q′
+
+pub record RateRange : Type 0 where
+  pub lowP : ℕ
+  pub lowQ : ℕ
+  pub highP : ℕ
+  pub highQ : ℕ
+  pub exact : Bool
+
+-- exact is said just where the ends are equal
+abbrev pub ExactRate : RateRange → Type 0
+ExactRate a = ((a .lowP ≡ a .highP) × (a .lowQ ≡ a .highQ) × (a .exact ≡ true)) ⊎ (¬ ((a .lowP ≡ a .highP) × (a .lowQ ≡ a .highQ)) × (a .exact ≡ false))
+
+pub record Rates (S : Shape) (K : Ranges) (v : ℕ) (a : RateRange) : Type 0 where
+  pub low : LowRate S K v (a .lowP) (a .lowQ)
+  pub high : HighRate S K v (a .highP) (a .highQ)
+  pub meet : ExactRate a
