@@ -34,10 +34,10 @@ use Rattle.theory.specs.Same.{period-same, reported-same, schedule-same, answer
 use Rattle.table.specs.declared.Table.{Table}
 use Rattle.table.specs.Fields.{Within, FirstBad}
 use Rattle.table.specs.Meaning.{shapeOf, rangesOf}
-use Rattle.engine.specs.Columns.{shape, delayAt}
-use Rattle.engine.specs.Search.{Reached}
-use Rattle.engine.specs.Found.{FoundFirst}
-use Rattle.engine.specs.Lay.{Laid, laid-shape, laid-least, laid-greatest}
+use Rattle.columns.specs.Columns.{shape, delayAt}
+use Rattle.search.specs.Search.{Reached}
+use Rattle.loops.specs.Found.{FoundFirst}
+use Rattle.columns.specs.Lay.{Laid, laid-shape, laid-least, laid-greatest}
 use Rattle.engine.specs.declared.End.{End}
 use Rattle.engine.specs.declared.Lap.{Lap}
 use Rattle.engine.specs.Verdict.{Verdict, outside, knotted, flat, wide, found, Judges, never-wide-at, verdict-unique}

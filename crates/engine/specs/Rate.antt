@@ -38,9 +38,9 @@ use Rattle.table.specs.Meaning.{used, delayOf, shapeOf, rangesOf, within-fits, 
 use Rattle.engine.specs.declared.Ratio.{Ratio}
 use Rattle.engine.specs.declared.Rating.{Rating}
 use Rattle.engine.specs.declared.Lap.{Lap}
-use Rattle.engine.specs.Columns.{shape}
-use Rattle.engine.specs.Found.{FoundFirst}
-use Rattle.engine.specs.Lay.{Laid, laid-shape, laid-least, laid-greatest}
+use Rattle.columns.specs.Columns.{shape}
+use Rattle.loops.specs.Found.{FoundFirst}
+use Rattle.columns.specs.Lay.{Laid, laid-shape, laid-least, laid-greatest}
 use Rattle.engine.specs.Verdict.{Verdict, outside, knotted, flat, wide, found}
 use Rattle.engine.specs.Lap.{lapOf, rangesIn, JudgesIn, LapIn, ends-live}
 

@@ -27,9 +27,9 @@ use Rattle.model.specs.Shape.{Shape}
 use Rattle.model.specs.Walk.{Walk}
 use Rattle.model.specs.Rate.{Reaches}
 use Rattle.theory.specs.Rate.{reach-here, reach-over, Steers, fits-steered}
-use Rattle.engine.specs.Columns.{shape, Limits}
-use Rattle.engine.specs.Listed.{plain, Within}
-use Rattle.engine.specs.Sum.{total, inside, total-falls}
+use Rattle.columns.specs.Columns.{shape, Limits}
+use Rattle.loops.specs.Listed.{plain, Within}
+use Rattle.loops.specs.Sum.{total, inside, total-falls, sum-most}
 
 pub record LastInto (target : List ℕ) (t b c : ℕ) : Type 0 where
   pub low : c ≤ b
@@ -115,11 +115,6 @@ pub extends-both : {cut₀ found₀ cut₁ found₁ cut found : List ℕ} {len�
 extends-both a b =
     record { opens = λ u e. b .opens u (a .opens u e); keeps = λ i l. b .keeps i (omega (arith, a .longer)) ∙ a .keeps i l; longer = omega (arith, a .longer, b .longer) }
 
-total-most : (k : ℕ) (xs : List ℕ) → ((i : ℕ) → getD xs i 0 ≤ 1) → total k xs ≤ k
-unfolding total
-total-most zero xs h = omega arith
-total-most (suc k) xs h = omega (arith, total-most k xs h, h k)
-
 -- a place that is not 0 counts
 pub total-some : (cut : List ℕ) (s : ℕ) → s < 256 → 0 < getD cut s 0 → 0 < total 256 cut
 total-some cut s b h = omega (arith, total-falls 256 cut s 0 b h)
@@ -133,7 +128,7 @@ pub reaching-none : (S : Shape) (v : ℕ) → Reaching S v (replicate 256 1) (re
 reaching-none S v =
     record {
       room-found = refl;
-      room = omega (arith, total-most 256 (replicate 256 1) (ones-most 256));
+      room = omega (arith, sum-most 256 (λ i. getD {A = ℕ} (replicate 256 1) i 0) (ones-most 256));
       reach = λ u b e. absurd (omega (arith, getD-replicate {A = ℕ} 256 u 1 0 b));
       is-open = λ i b. absurd (omega arith);
       listed = λ u b e. absurd (omega (arith, getD-replicate {A = ℕ} 256 u 1 0 b));

@@ -17,9 +17,9 @@ use Rattle.table.specs.declared.Table.{Table}
 use Rattle.table.specs.Fields.{Within, FirstBad, within-not-bad, first-bad-unique}
 use Rattle.table.specs.Meaning.{shapeOf}
 use Rattle.engine.specs.declared.Turned.{Turned}
-use Rattle.engine.specs.Columns.{shape}
-use Rattle.engine.specs.Found.{FoundFirst}
-use Rattle.engine.specs.Lay.{Laid, laid-shape}
+use Rattle.columns.specs.Columns.{shape}
+use Rattle.loops.specs.Found.{FoundFirst}
+use Rattle.columns.specs.Lay.{Laid, laid-shape}
 use Rattle.engine.specs.Lap.{ends-live}
 
 -- one case each

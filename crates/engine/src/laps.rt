@@ -4,13 +4,10 @@ ghost use mathlib.Core.List.{_++_};
 ghost use Prim.Native.Nat.{ℕ, _-_, _≤_};
 ghost use lib.ListN.{length, getD, take, replicate};
 ghost use Rattle.model.specs.Loop.{Live};
-ghost use Rattle.engine.specs.Columns.{shape, delayAt, Limits, Short, Ordered};
+ghost use Rattle.columns.specs.Columns.{shape, delayAt, Limits, Short, Ordered};
 ghost use Rattle.engine.specs.Lap.{refusedLap, endOf, answeredLap, Sided, Meets, answerOf, rangesIn, LapIn};
 use crate::End;
 use crate::Lap;
-use crate::climb;
-use crate::first;
-use crate::order;
 
 pub const LOOP: u32 = 5;
 
@@ -70,18 +67,17 @@ fn measured(
     target: &[u16; 2048],
     offset: &[u16; 2048],
     delay: &[u32; 2048],
-    order: &[u16; 2048],
     m: usize,
     n: usize,
 ) -> Side
     requires { ⌜ (Limits (now source) (now target) (now offset) m n) × (Short (now delay) m) × (Live (shape (now source) (now target) (now offset) m)) ⌝ }
     ensures { λ r. ⌜ Sided (shape (now (source .entry)) (now (target .entry)) (now (offset .entry)) m) (delayAt (now (delay .entry))) n (r .p) (r .q) (r .len) (r .rules) (r .x) ⌝ }
 {
-    let top = climb::climb(source, target, offset, delay, order, m, n);
+    let top = search::climb(source, target, offset, delay, m, n);
     let p = top.p;
     let q = top.q;
     let x = top.x;
-    let found = first::tight_loop(source, target, offset, delay, m, n, p, q, &x);
+    let found = loops::tight_loop(source, target, offset, delay, m, n, p, q, &x);
     let rules = found.rules;
     Side {
         p: p,
@@ -153,17 +149,16 @@ pub fn laps(
     requires { ⌜ (Limits (now source) (now target) (now offset) m n) × (Ordered (now least) (now greatest) m blank) ⌝ }
     ensures { λ r. ⌜ LapIn (shape (now (source .entry)) (now (target .entry)) (now (offset .entry)) m) (rangesIn (now (least .entry)) (now (greatest .entry))) n r ⌝ }
 {
-    let zero = first::zero_loop(source, target, offset, m, n);
+    let zero = loops::zero_loop(source, target, offset, m, n);
     if 0 < zero.len {
         return refused(LOOP, zero.at);
     }
-    let order = order::order(source, target, offset, m, n);
-    let low = measured(source, target, offset, least, &order, m, n);
+    let low = measured(source, target, offset, least, m, n);
     if low.len == 0 {
         return refused(FLAT, 0);
     }
     if blank {
-        let high = measured(source, target, offset, greatest, &order, m, n);
+        let high = measured(source, target, offset, greatest, m, n);
         return answered(n, low, high);
     }
     answered(n, low, low)

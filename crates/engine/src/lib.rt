@@ -1,13 +1,6 @@
-// The engine: the lap of a table, the rate of one of its transitions, and whether a loop of it has no turn. Everything that works on columns is private.
-mod above;
-mod climb;
-mod columns;
-mod first;
+// The engine: the lap of a table, the rate of one of its transitions, and whether a loop of it has no turn. What works on columns is in the crates `columns`, `search` and `loops`.
 mod laps;
-mod order;
-mod peel;
 mod reach;
-mod scan;
 
 ghost use mathlib.Core.Path.{_≡_};
 ghost use Rattle.engine.specs.Lap.{LapOf};
@@ -127,7 +120,7 @@ pub fn rate(t: Table, v: usize) -> Rating
     let source = c.source;
     let target = c.target;
     let offset = c.offset;
-    let zero = first::zero_loop(&source, &target, &offset, t.m, n);
+    let zero = loops::zero_loop(&source, &target, &offset, t.m, n);
     if 0 < zero.len {
         return unrated(laps::LOOP, zero.at);
     }
@@ -168,7 +161,7 @@ pub fn turns(t: Table) -> Turned
     let source = c.source;
     let target = c.target;
     let offset = c.offset;
-    let zero = first::zero_loop(&source, &target, &offset, t.m, t.n);
+    let zero = loops::zero_loop(&source, &target, &offset, t.m, t.n);
     if 0 < zero.len {
         return Turned {
             refusal: laps::LOOP,

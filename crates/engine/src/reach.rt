@@ -3,8 +3,8 @@ ghost use mathlib.Core.Path.{_≡_};
 ghost use Prim.Native.Nat.{ℕ, _+_, _≤_, _<_};
 ghost use lib.ListN.{getD};
 ghost use Rattle.theory.specs.Rate.{Steers};
-ghost use Rattle.engine.specs.Listed.{plain, Within};
-ghost use Rattle.engine.specs.Sum.{total};
+ghost use Rattle.loops.specs.Listed.{plain, Within};
+ghost use Rattle.loops.specs.Sum.{total};
 ghost use Rattle.engine.specs.Reach.{Entering, Opened, Reaching, Chained, Visited, CutOff, StartsAt, Steered};
 
 // An element is read through this: a cast of the element itself would ask for its bound.

@@ -23,8 +23,8 @@ use Rattle.table.specs.declared.Table.{Table}
 use Rattle.table.specs.Limits.{maxDelay}
 use Rattle.table.specs.Form.{unusedRule, ruleOf}
 use Rattle.table.specs.Meaning.{used, delayOf, shapeOf, Blank, used-rule}
-use Rattle.engine.specs.Columns.{shape, delayAt}
-use Rattle.engine.specs.Lay.{leastAt, greatestAt, Laid, laid-shape, laid-least}
+use Rattle.columns.specs.Columns.{shape, delayAt}
+use Rattle.columns.specs.Lay.{leastAt, greatestAt, Laid, laid-shape, laid-least}
 use Rattle.simulation.specs.Simulation.{delays, NoBlank, FirstBlank}
 
 pub record BlankAt (t : Table) (r : ℕ) : Type 0 where

@@ -16,7 +16,7 @@ use Rattle.model.specs.Loop.{Live}
 use Rattle.model.specs.Times.{Acts, asked, Cause, IsTime, Timed}
 use Rattle.theory.specs.Relax.{zeros-at}
 use Rattle.theory.specs.Rank.{ZeroRanks, live-ranks}
-use Rattle.engine.specs.Columns.{shape, delayAt, Limits, Short}
+use Rattle.columns.specs.Columns.{shape, delayAt, Limits, Short}
 use Rattle.simulation.specs.Groups.{Within, Grouped, Rearranged, Bounded, grouped-ends, grouped-rising}
 use Rattle.simulation.specs.Order.{Ranked, Complete}
 use Rattle.simulation.specs.Rows.{at, Pull, Plan, Rows}

@@ -4,7 +4,7 @@ ghost use mathlib.Core.Bool.{false};
 ghost use Rattle.model.specs.Filling.{leastOf};
 ghost use Rattle.table.specs.Fields.{Within};
 ghost use Rattle.table.specs.Meaning.{delayOf};
-ghost use Rattle.engine.specs.Lay.{Laid};
+ghost use Rattle.columns.specs.Lay.{Laid};
 ghost use Rattle.simulation.specs.Simulation.{NoBlank};
 ghost use Rattle.simulation.specs.Blanks.{BlankAt};
 use table::Delay;

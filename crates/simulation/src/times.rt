@@ -4,7 +4,7 @@ ghost use Prim.Native.Nat.{ℕ, _*_, _≤_, _<_};
 ghost use lib.ListN.{length};
 ghost use Rattle.model.specs.Loop.{Live};
 ghost use Rattle.model.specs.Times.{Timed};
-ghost use Rattle.engine.specs.Columns.{shape, delayAt, Limits, Short};
+ghost use Rattle.columns.specs.Columns.{shape, delayAt, Limits, Short};
 
 // The times of the first `count` occurrences of n transitions, where every loop turns.
 pub fn written(

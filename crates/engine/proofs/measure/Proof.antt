@@ -1,6 +1,6 @@
 -- `measure` meets its contract: what the analysis says of the columns it says of the table (`lap-table`).
 -- Assumes nothing.
-use Rattle.engine.specs.Lay.{judged-outside, judged-within, laid-limits, laid-ordered}
+use Rattle.columns.specs.Lay.{judged-outside, judged-within, laid-limits, laid-ordered}
 use Rattle.engine.specs.Lap.{lap-outside, lap-table}
 use borrow.Author.Needs.{needs}
 use Rattle.engine.proofs.measure.Statement.{statement}

@@ -2,7 +2,7 @@
 -- Assumes nothing.
 use mathlib.Core.Path.{sym, subst}
 use native.Mathlib.Omega.{arith}
-use Rattle.engine.specs.Lay.{judged-outside, judged-within, laid-limits, laid-ordered}
+use Rattle.columns.specs.Lay.{judged-outside, judged-within, laid-limits, laid-ordered}
 use Rattle.engine.specs.Reach.{within-limits, steers-offsets, limits-steered}
 use Rattle.engine.specs.Rate.{RatingOf, rating-outside, rating-unnamed, rating-knotted, rating-lap}
 use borrow.Author.Needs.{needs}

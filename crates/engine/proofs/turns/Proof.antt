@@ -1,7 +1,7 @@
 -- `turns` meets its contract: the check of the table, or the first loop of rules of offset 0 on its columns, decides.
 -- Assumes nothing.
 use mathlib.Core.Logic.{inl}
-use Rattle.engine.specs.Lay.{judged-outside, judged-within, laid-limits}
+use Rattle.columns.specs.Lay.{judged-outside, judged-within, laid-limits}
 use Rattle.engine.specs.Turn.{turn-knotted, turn-live}
 use borrow.Author.Needs.{needs}
 use Rattle.engine.proofs.turns.Statement.{statement}

@@ -2,7 +2,7 @@
 -- Assumes nothing.
 use native.Mathlib.Omega.{arith}
 use borrow.Author.Needs.{needs}
-use Rattle.engine.specs.Lay.{judged-outside, judged-within}
+use Rattle.columns.specs.Lay.{judged-outside, judged-within}
 use Rattle.simulation.specs.Refusals.{room-low, judge-outside, judge-span, judge-blank, judge-room, judge-turned}
 use Rattle.simulation.proofs.refusal.Statement.{statement}
 use Rattle.simulation.proofs.refusal.Tie as tie

@@ -4,7 +4,7 @@ use mathlib.Core.Path.{refl}
 use native.Mathlib.Omega.{arith}
 use native.Mathlib.Nat.{mul-comm}
 use borrow.Author.Needs.{needs}
-use Rattle.engine.specs.Lay.{laid-limits, laid-ordered}
+use Rattle.columns.specs.Lay.{laid-limits, laid-ordered}
 use Rattle.simulation.specs.Blanks.{columns-live, columns-timed}
 use Rattle.simulation.specs.Refusals.{simulated}
 use Rattle.simulation.proofs.simulate.Statement.{statement}

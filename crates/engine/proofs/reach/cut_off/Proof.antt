@@ -2,7 +2,7 @@
 -- open transitions. The measure is the count of transitions not yet visited. Assumes nothing.
 use Prim.Native.Nat.{_-_, _<_}
 use native.Mathlib.Omega.{arith}
-use Rattle.engine.specs.Listed.{plain}
+use Rattle.loops.specs.Listed.{plain}
 use Rattle.engine.specs.Reach.{Entering, reaching-none, Searching, search-starts, found-inside, search-chained, search-next, search-ends}
 use Rattle.engine.proofs.reach.cut_off.Statement.{statement}
 use Rattle.engine.proofs.reach.cut_off.Tie as tie

@@ -2,7 +2,7 @@
 -- Assumes nothing.
 use Prim.Native.Nat.{_-_}
 use native.Mathlib.Omega.{arith}
-use Rattle.engine.specs.Listed.{plain}
+use Rattle.loops.specs.Listed.{plain}
 use Rattle.engine.specs.Reach.{Visiting, visit-starts, next-low, visit-next, visit-ends}
 use Rattle.engine.proofs.reach.visit.Statement.{statement}
 use Rattle.engine.proofs.reach.visit.Tie as tie

@@ -5,7 +5,7 @@ use mathlib.Core.Path.{_≡_, refl, _∙_}
 use mathlib.Core.Bool.{false}
 use native.Mathlib.Omega.{arith}
 use borrow.Author.Needs.{needs}
-use Rattle.engine.specs.Lay.{Laid, laid-start, laid-next}
+use Rattle.columns.specs.Lay.{Laid, laid-start, laid-next}
 use Rattle.simulation.specs.Blanks.{given-delay}
 use Rattle.simulation.proofs.columns.lay.Statement.{statement}
 use Rattle.simulation.proofs.columns.lay.Tie as tie

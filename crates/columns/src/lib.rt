@@ -1,0 +1,75 @@
+// A table within its limits as columns of numbers, made once: the engine lends these and never the table.
+ghost use mathlib.Core.Path.{_≡_};
+ghost use Rattle.model.specs.Filling.{leastOf, greatestOf};
+ghost use Rattle.table.specs.Limits.{maxDelay};
+ghost use Rattle.table.specs.Fields.{Within};
+ghost use Rattle.table.specs.Meaning.{delayOf};
+ghost use Rattle.columns.specs.Lay.{Laid};
+use table::Delay;
+use table::Table;
+
+pub struct Columns {
+    pub source: [u16; 2048],
+    pub target: [u16; 2048],
+    pub offset: [u16; 2048],
+    pub least: [u32; 2048],
+    pub greatest: [u32; 2048],
+    pub blank: bool,
+}
+
+struct May {
+    least: u32,
+    greatest: u32,
+}
+
+// What a delay may be.
+fn may_be(delay: Delay) -> May
+    ensures { λ r. ⌜ (r .least ≡ leastOf (delayOf delay)) × (r .greatest ≡ greatestOf maxDelay (delayOf delay)) ⌝ }
+{
+    match delay {
+        Delay::Unknown => May {
+            least: 0,
+            greatest: Table::MAX_DELAY,
+        },
+        Delay::Known(d) => May {
+            least: d,
+            greatest: d,
+        },
+    }
+}
+
+pub fn lay(t: Table) -> Columns
+    requires { ⌜ Within t ⌝ }
+    ensures { λ r. ⌜ Laid t (t .m) (r .source) (r .target) (r .offset) (r .least) (r .greatest) (r .blank) ⌝ }
+{
+    let m = t.m;
+    let mut source = [0u16; 2048];
+    let mut target = [0u16; 2048];
+    let mut offset = [0u16; 2048];
+    let mut least = [0u32; 2048];
+    let mut greatest = [0u32; 2048];
+    let mut blank = false;
+    let mut i = 0;
+    while i < m {
+        let rule = t.rules[i];
+        let delay = rule.delay;
+        let may = may_be(delay);
+        source[i] = rule.source;
+        target[i] = rule.target;
+        offset[i] = rule.offset;
+        least[i] = may.least;
+        greatest[i] = may.greatest;
+        if may.least < may.greatest {
+            blank = true;
+        }
+        i += 1;
+    }
+    Columns {
+        source: source,
+        target: target,
+        offset: offset,
+        least: least,
+        greatest: greatest,
+        blank: blank,
+    }
+}

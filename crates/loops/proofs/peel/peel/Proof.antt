@@ -1,0 +1,40 @@
+-- `engine::peel::peel` meets its contract: the remnant, after those that no remaining rule enters and those that none leaves.
+-- Assumes nothing.
+use Rattle.loops.specs.Listed.{limits-back}
+use Rattle.loops.specs.Linked.{row-none}
+use Rattle.loops.specs.Peeling.{peeled-once, peeled-twice}
+use native.Mathlib.Omega.{arith}
+use Rattle.loops.proofs.peel.peel.Statement.{statement}
+use Rattle.loops.proofs.peel.peel.Tie as tie
+
+strike-unentered-requires : tie.Need-strike-unentered-requires
+strike-unentered-requires c κs = let p = c .before .before .pre in (p, row-none _ (p .some-transition))
+
+returns : tie.Need-returns
+returns c =
+    let s = c .before .before .before .before in
+    let a = s .args in
+    peeled-once (a .source .now) (a .target .now) (a .len) (a .n) (s .pre) _ _ _ (c .before .strike-unentered .ensures) (c .if1 .taken)
+
+strike-unentered-requires-2 : tie.Need-strike-unentered-requires-2
+strike-unentered-requires-2 c κs =
+    let s = c .before .before .before .before .before .before in
+    let a = s .args in
+    (limits-back (a .source .now) (a .target .now) (a .len) (a .n) (s .pre), row-none _ (s .pre .some-transition))
+
+add-t19 : tie.Need-add-t19
+add-t19 c =
+    let s = c .before .before .before .before .before .before .before in
+    let a = s .args in
+    omega (arith, s .pre .few-transitions, peeled-twice (a .source .now) (a .target .now) (a .len) (a .n) (s .pre) _ _ _ (c .before .before .before .before .strike-unentered .ensures) _ _ _ (c .strike-unentered2 .ensures) .counted)
+
+returns-2 : tie.Need-returns-2
+returns-2 c =
+    let s = c .before .before .before .before .before .before .before in
+    let a = s .args in
+    peeled-twice (a .source .now) (a .target .now) (a .len) (a .n) (s .pre) _ _ _ (c .before .before .before .before .strike-unentered .ensures) _ _ _ (c .strike-unentered2 .ensures)
+
+pub peel-spec : {M : Type 1} → statement M
+peel-spec =
+    tie.close
+    (tie.spec strike-unentered-requires returns strike-unentered-requires-2 add-t19 returns-2)

@@ -1,0 +1,27 @@
+-- `engine::peel::remains` meets its contract: a rule remains while both its ends do.
+-- Assumes nothing.
+use mathlib.Core.Path.{refl}
+use Rattle.loops.specs.Sum.{not-both}
+use native.Mathlib.Omega.{arith}
+use borrow.Author.Needs.{needs}
+use Rattle.loops.proofs.peel.remains.Statement.{statement}
+use Rattle.loops.proofs.peel.remains.Tie as tie
+
+element-copy-out-if1 : tie.Need-element-copy-out-if1
+element-copy-out-if1 c = search needs
+
+element-copy-out-if2 : tie.Need-element-copy-out-if2
+element-copy-out-if2 c = search needs
+
+returns : tie.Need-returns
+returns c = (λ t. (omega arith, omega arith), λ f. absurd (not-both _ refl f))
+
+returns-2 : tie.Need-returns-2
+returns-2 c = (λ t. absurd (not-both _ t refl), λ f p. omega (arith, c .if2 .left, p .1))
+
+returns-3 : tie.Need-returns-3
+returns-3 c = (λ t. absurd (not-both _ t refl), λ f p. omega (arith, c .if1 .left, p .0))
+
+pub remains-spec : {M : Type 1} → statement M
+remains-spec =
+    tie.close (tie.spec element-copy-out-if1 element-copy-out-if2 returns returns-2 returns-3)

@@ -1,0 +1,19 @@
+-- `engine::peel::unentered` meets its contract: a transition that remains, though no rule enters it.
+-- Assumes nothing.
+use mathlib.Core.Path.{refl}
+use Rattle.loops.specs.Sum.{not-both}
+use native.Mathlib.Omega.{arith}
+use Rattle.loops.proofs.peel.unentered.Statement.{statement}
+use Rattle.loops.proofs.peel.unentered.Tie as tie
+
+returns : tie.Need-returns
+returns c = (λ t. (omega arith, omega arith), λ f. absurd (not-both _ refl f))
+
+returns-2 : tie.Need-returns-2
+returns-2 c = (λ t. absurd (not-both _ t refl), λ f p. omega (arith, c .if2 .left, p .1))
+
+returns-3 : tie.Need-returns-3
+returns-3 c = (λ t. absurd (not-both _ t refl), λ f p. omega (arith, c .if1 .left, p .0))
+
+pub unentered-spec : {M : Type 1} → statement M
+unentered-spec = tie.close (tie.spec returns returns-2 returns-3)
