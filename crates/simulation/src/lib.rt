@@ -1,6 +1,6 @@
 // The timing simulation of a table: the rules grouped by target, an order of the transitions found once, and one pull along it for each occurrence.
-mod columns;
 mod group;
+mod known;
 mod order;
 mod rows;
 mod times;
@@ -52,7 +52,7 @@ fn refusal(t: Table, occurrences: usize, len: usize) -> Simulated
             place: 0,
         };
     }
-    let blank = columns::blank(t);
+    let blank = known::blank(t);
     if blank < t.m {
         return Simulated {
             refusal: UNKNOWN,
@@ -81,7 +81,7 @@ pub fn simulate(t: Table, occurrences: usize, times: &mut [u64]) -> Simulated
     if 0 < refused.refusal {
         return refused;
     }
-    let c = columns::lay(t);
+    let c = known::lay(t);
     let source = c.source;
     let target = c.target;
     let offset = c.offset;

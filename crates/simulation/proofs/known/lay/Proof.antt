@@ -1,4 +1,4 @@
--- `columns::lay` meets its contract. The loop's invariant: the columns hold the first i rules. The measure is what is left of the rules.
+-- `known::lay` meets its contract. The loop's invariant: the columns hold the first i rules. The measure is what is left of the rules.
 -- Assumes nothing.
 use Prim.Native.Nat.{_-_, _≤_}
 use mathlib.Core.Path.{_≡_, refl, _∙_}
@@ -7,8 +7,8 @@ use native.Mathlib.Omega.{arith}
 use borrow.Author.Needs.{needs}
 use Rattle.columns.specs.Lay.{Laid, laid-start, laid-next}
 use Rattle.simulation.specs.Blanks.{given-delay}
-use Rattle.simulation.proofs.columns.lay.Statement.{statement}
-use Rattle.simulation.proofs.columns.lay.Tie as tie
+use Rattle.simulation.proofs.known.lay.Statement.{statement}
+use Rattle.simulation.proofs.known.lay.Tie as tie
 
 abbrev Inv-loop : tie.InvT-loop
 Inv-loop t m source₀ target₀ offset₀ delay₀ i₀ source target offset delay i =

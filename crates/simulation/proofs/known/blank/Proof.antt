@@ -1,12 +1,12 @@
--- `columns::blank` meets its contract. The loop's invariant: no rule before r has an unknown delay. The measure is what is left of the rules.
+-- `known::blank` meets its contract. The loop's invariant: no rule before r has an unknown delay. The measure is what is left of the rules.
 -- Assumes nothing.
 use Prim.Native.Nat.{_-_, _≤_}
 use mathlib.Core.Path.{_≡_, refl}
 use native.Mathlib.Omega.{arith}
 use borrow.Author.Needs.{needs}
 use Rattle.simulation.specs.Blanks.{Known-to, known-start, known-step, blank-here, blank-none}
-use Rattle.simulation.proofs.columns.blank.Statement.{statement}
-use Rattle.simulation.proofs.columns.blank.Tie as tie
+use Rattle.simulation.proofs.known.blank.Statement.{statement}
+use Rattle.simulation.proofs.known.blank.Tie as tie
 
 abbrev Inv-loop : tie.InvT-loop
 Inv-loop t m r₀ r = (m ≡ t .m) × (r ≤ m) × (m ≤ 2048) × Known-to t r
