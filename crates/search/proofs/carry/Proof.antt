@@ -1,4 +1,4 @@
--- `climb::carry` meets its contract. The loop's invariant: k rules have asked (`Going`). The measure is what is left of them.
+-- `search::carry` meets its contract. The loop's invariant: k rules have asked (`Going`). The measure is what is left of them.
 -- Assumes nothing.
 use Prim.Native.Nat.{_-_, _≤_, _<_}
 use mathlib.Core.Logic.{⊎-elim}

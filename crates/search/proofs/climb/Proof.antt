@@ -1,4 +1,4 @@
--- `climb::climb` meets its contract. The loop's invariant: the climb has come to p/q (`Rising`). The measure is the steps left above p/q.
+-- `search::climb` meets its contract. The loop's invariant: the climb has come to p/q (`Rising`). The measure is the steps left above p/q.
 -- Assumes nothing.
 use mathlib.Core.Logic.{⊎-elim}
 use Rattle.columns.specs.Columns.{shape, delayAt}

@@ -1,4 +1,4 @@
--- `climb::gcd` meets its contract. The loop's invariant: whatever is the greatest common divisor of x and y is that of a and b. The measure is y.
+-- `search::gcd` meets its contract. The loop's invariant: whatever is the greatest common divisor of x and y is that of a and b. The measure is y.
 -- Assumes nothing.
 use mathlib.Core.Path.{_≡_}
 use Prim.Native.Nat.{ℕ}

@@ -1,4 +1,4 @@
--- `climb::pass` meets its contract. The loop's invariant: the pass is before rule i (`Going`). The measure is what is left of the rules.
+-- `search::pass` meets its contract. The loop's invariant: the pass is before rule i (`Going`). The measure is what is left of the rules.
 -- Assumes nothing.
 use Prim.Native.Nat.{_-_, _≤_, _<_}
 use mathlib.Core.Logic.{⊎-elim}

@@ -1,4 +1,4 @@
--- `climb::quotient` meets its contract: the quotients by the greatest common divisor are in lowest terms.
+-- `search::quotient` meets its contract: the quotients by the greatest common divisor are in lowest terms.
 -- Assumes nothing.
 use borrow.Author.Needs.{needs}
 use Rattle.theory.specs.Ratio.{gcd-quotients}

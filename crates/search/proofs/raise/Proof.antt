@@ -1,4 +1,4 @@
--- `climb::raise` meets its contract, on the way that stores and on the one that leaves all as it is.
+-- `search::raise` meets its contract, on the way that stores and on the one that leaves all as it is.
 -- Assumes nothing.
 use mathlib.Core.Path.{refl}
 use mathlib.Core.Bool.{true, false}

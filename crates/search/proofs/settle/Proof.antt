@@ -1,4 +1,4 @@
--- `climb::settle` meets its contract. The loop's invariant: x and par are the values and parents after k passes over all rules, and k < n (`Settling`).
+-- `search::settle` meets its contract. The loop's invariant: x and par are the values and parents after k passes over all rules, and k < n (`Settling`).
 -- The measure is n - k.
 -- Assumes nothing.
 use Prim.Native.Nat.{_-_}

@@ -1,4 +1,4 @@
--- `engine::order::leave` meets its contract: it lists rules below m, and the queue stays one of transitions.
+-- `search::order::leave` meets its contract: it lists rules below m, and the queue stays one of transitions.
 -- The loop's invariant: the link is none or that of a rule below m, and the queue is one of transitions. The measure is the number of places left for rules.
 -- Assumes nothing.
 use Prim.Native.Nat.{_-_, _≤_}

@@ -1,4 +1,4 @@
--- `engine::order::link` meets its contract: every link is that of a rule below m.
+-- `search::order::link` meets its contract: every link is that of a rule below m.
 -- The loop's invariant: so it is, and no transition waits for more rules than were looked at. The measure is the number of rules left.
 -- Assumes nothing.
 use Prim.Native.Nat.{_+_, _-_, _≤_}

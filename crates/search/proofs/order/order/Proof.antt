@@ -1,4 +1,4 @@
--- `engine::order::order` is safe and ends.
+-- `search::order::order` is safe and ends.
 -- The loop's invariant: the queue is one of transitions. The measure is the number of its places left.
 -- Assumes nothing.
 use Prim.Native.Nat.{_-_}

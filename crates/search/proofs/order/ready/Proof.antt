@@ -1,4 +1,4 @@
--- `engine::order::ready` meets its contract: only transitions are written, and at most one for each that was looked at.
+-- `search::order::ready` meets its contract: only transitions are written, and at most one for each that was looked at.
 -- The loop's invariant says so of those looked at. The measure is the number of transitions left.
 -- Assumes nothing.
 use Prim.Native.Nat.{_-_, _≤_}

@@ -1,4 +1,4 @@
--- `engine::order::release` meets its contract: what it writes into the queue is a transition.
+-- `search::order::release` meets its contract: what it writes into the queue is a transition.
 -- Assumes nothing.
 use native.Mathlib.Omega.{arith}
 use Rattle.search.specs.Order.{most-set}

@@ -1,4 +1,4 @@
--- `engine::scan::better` meets its contract. Low sums have products below 2 ^ 64. Assumes nothing.
+-- `search::scan::better` meets its contract. Low sums have products below 2 ^ 64. Assumes nothing.
 use native.Mathlib.Omega.{arith}
 use mathlib.Core.Logic.{inl, inr}
 use native.Mathlib.Nat.{mul-le-mul}

@@ -1,4 +1,4 @@
--- `engine::scan::scan` meets its contract. The loop's invariant: what the walks from the transitions below `from` leave (`Looked`).
+-- `search::scan::scan` meets its contract. The loop's invariant: what the walks from the transitions below `from` leave (`Looked`).
 -- The measure is the count of transitions left. Assumes nothing.
 use Prim.Native.Nat.{_+_, _-_}
 use mathlib.Core.Path.{_≡_, refl}

@@ -1,4 +1,4 @@
--- `engine::scan::walk_back` meets its contract. The loop's invariant: from the transition where the walk is, parents lead to each that has the walk's
+-- `search::scan::walk_back` meets its contract. The loop's invariant: from the transition where the walk is, parents lead to each that has the walk's
 -- number, and their sums make up the difference to those left there. The measure is the count of transitions without a number. Assumes nothing.
 use Prim.Native.Nat.{_-_}
 use native.Mathlib.Omega.{arith}
