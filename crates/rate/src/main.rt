@@ -2,12 +2,16 @@
 // a line for those that share one. As in `report` the first 16,389 bytes decide.
 use text::Text;
 
+fn write(bytes: &[u8], len: usize) {
+    if len <= bytes.len() {
+        io::write_all(1, &bytes[..len]);
+    }
+}
+
 fn show(line: Text) {
     let len = line.len;
     let bytes = line.bytes;
-    if len <= Text::ROOM {
-        io::write_all(1, &bytes[..len]);
-    }
+    write(&bytes[..], len);
 }
 
 fn show_one(file: &[u8], digits: &[u8]) {
