@@ -3,7 +3,7 @@
 use std::fs;
 use std::path::Path;
 
-use reference::{file, notation, report::report};
+use reference::{file, notation, report};
 
 #[test]
 fn examples_agree() {
@@ -16,9 +16,11 @@ fn examples_agree() {
             let text = fs::read_to_string(path.with_extension("txt")).unwrap();
             let expected = fs::read_to_string(path.with_extension("expected")).unwrap();
             assert_eq!(file::read(&bytes).unwrap(), notation::parse(&text).unwrap());
-            assert_eq!(report(&bytes), expected, "{path:?}");
+            assert_eq!(report::report(&bytes), expected, "{path:?}");
+            let rates = fs::read_to_string(path.with_extension("rates")).unwrap();
+            assert_eq!(report::rate_lines(&bytes), rates, "{path:?}");
             count += 1;
         }
     }
-    assert!(count >= 16, "some examples were lost");
+    assert!(count >= 17, "some examples were lost");
 }
