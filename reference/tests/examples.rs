@@ -4,7 +4,7 @@
 use std::fs;
 use std::path::Path;
 
-use reference::{bids, file, notation, report::report};
+use reference::{bids, file, notation, report};
 
 #[test]
 fn examples_agree() {
@@ -17,11 +17,13 @@ fn examples_agree() {
             let text = fs::read_to_string(path.with_extension("txt")).unwrap();
             let expected = fs::read_to_string(path.with_extension("expected")).unwrap();
             assert_eq!(file::read(&bytes).ok(), notation::parse(&text).ok());
-            assert_eq!(report(&bytes), expected, "{path:?}");
+            assert_eq!(report::report(&bytes), expected, "{path:?}");
+            let rates = fs::read_to_string(path.with_extension("rates")).unwrap();
+            assert_eq!(report::rate_lines(&bytes), rates, "{path:?}");
             count += 1;
         }
     }
-    assert!(count >= 18, "some examples were lost");
+    assert!(count >= 19, "some examples were lost");
 }
 
 #[test]

@@ -11,23 +11,27 @@
 -- Theorems: rate-never-wide (refusal 11 never comes), rate-verdict-exists, rate-verdict-unique, rating-unique (one outcome).
 use mathlib.Core.Path.{_≡_, refl, sym, ap, _∙_, subst}
 use mathlib.Core.Bool.{Bool, true, false}
-use mathlib.Core.Logic.{_⊎_, ⊎-elim, by-cases}
+use mathlib.Core.Logic.{_≢_, _⊎_, inl, inr, ⊎-elim, by-cases}
 use mathlib.Core.List.{List, []}
 use Prim.Native.Nat.{ℕ, _≤_, _<_, _^_}
 use native.Mathlib.Omega.{arith}
 use native.Mathlib.Decide.{decLt}
 use lib.ListN.{getD, take}
 use Rattle.model.specs.Shape.{Shape}
-use Rattle.model.specs.Loop.{NoLoop, Live}
+use Rattle.model.specs.Loop.{SomeLoop, NoLoop, Live}
 use Rattle.model.specs.Knot.{Knot}
 use Rattle.model.specs.Ratio.{Lowest}
 use Rattle.model.specs.Filling.{Ranges, Filling}
 use Rattle.model.specs.Wide.{WideSum}
-use Rattle.model.specs.Answer.{Answer, Answers}
-use Rattle.model.specs.Rate.{SomeLoopTo, NoLoopTo, Rate, RateRange, Rates}
+use Rattle.model.specs.Period.{Period}
+use Rattle.model.specs.Ends.{LowEnd, HighEnd}
+use Rattle.model.specs.Rate.{SomeLoopTo, NoLoopTo, Rate, RateRange, ExactRate, Rates}
 use Rattle.theory.specs.Filling.{Proper, ranges-proper}
 use Rattle.theory.specs.Knot.{knot-unique, knot-not-live, knot-or-live, loop-or-none, first-knot}
-use Rattle.theory.specs.Same.{answers-same}
+use Rattle.theory.specs.Schedule.{TightRule}
+use Rattle.theory.specs.Ends.{low-is, high-is}
+use Rattle.theory.specs.Climb.{climbed-period, climbed-some, climbed-none}
+use Rattle.theory.specs.Same.{period-same, low-same, high-same}
 use Rattle.theory.specs.Wide.{period-limits, small-not-wide}
 use Rattle.theory.specs.Rate.{steered, Steers, steering, rate-steered, low-plain, high-plain, live-steered, none-plain, some-plain, fits-steered, rates-unique, rates-exist}
 use Rattle.table.specs.declared.Table.{Table}
@@ -37,12 +41,11 @@ use Rattle.table.specs.Fields.{Within, FirstBad, within-or-first-bad, within-no
 use Rattle.table.specs.Meaning.{used, delayOf, shapeOf, rangesOf, within-fits, within-offsets, within-delays}
 use Rattle.engine.specs.declared.Ratio.{Ratio}
 use Rattle.engine.specs.declared.Rating.{Rating}
-use Rattle.engine.specs.declared.Lap.{Lap}
 use Rattle.columns.specs.Columns.{shape}
 use Rattle.loops.specs.Found.{FoundFirst}
 use Rattle.columns.specs.Lay.{Laid, laid-shape, laid-least, laid-greatest}
-use Rattle.engine.specs.Verdict.{Verdict, outside, knotted, flat, wide, found}
-use Rattle.engine.specs.Lap.{lapOf, rangesIn, JudgesIn, LapIn, ends-live}
+use Rattle.search.specs.Search.{Reached}
+use Rattle.engine.specs.Lap.{rangesIn, Meets, ends-live, no-flag}
 
 pub data RateVerdict : Type 0 where
   bad-field : ℕ → RateVerdict
@@ -177,10 +180,53 @@ rating-outside t v f k r b e = record { verdict = bad-field k; judged = b .0; re
 pub rating-unnamed : (t : Table) → Within t → (v : ℕ) (r : Rating) → t .n ≤ v → r ≡ refusedRating 10 (t .n) → RatingOf t v r
 rating-unnamed t w v r b e = record { verdict = no-name; judged = (w, b); result = e }
 
--- what is made of the lap of the steered rules
-abbrev pub madeRating : Lap → Rating
-madeRating lap =
-    record { refusal = lap .refusal; place = lap .place; exact = lap .exact; low = record { p = lap .low .p; q = lap .low .q }; high = record { p = lap .high .p; q = lap .high .q } }
+-- one side: no loop, or the period in lowest terms
+pub record Paced (S : Shape) (D : ℕ → ℕ) (found : Bool) (p q : ℕ) : Type 0 where
+  pub none : found ≡ false → NoLoop S
+  pub period : found ≡ true → Period S D p q
+  pub lowest : found ≡ true → Lowest p q
+
+-- two sides put together
+pub record MetRating (p q P Q : ℕ) (r : Rating) : Type 0 where
+  pub exact : Bool
+  pub meets : Meets p q P Q exact
+  pub result : r ≡ ratedRating (record { lowP = p; lowQ = q; highP = P; highQ = Q; exact = exact })
+
+-- both sides: refused 6 where there is no loop, else the two ends
+abbrev pub RatedIn : Shape → Ranges → Rating → Type 0
+RatedIn S K r =
+    (NoLoop S × (r ≡ refusedRating 6 0))
+    ⊎ ((a : RateRange) × LowEnd S K (a .lowP) (a .lowQ) × HighEnd S K (a .highP) (a .highQ) × ExactRate a × (r ≡ ratedRating a))
+
+module _ (S : Shape) (D : ℕ → ℕ) (P Q : ℕ) (X : List ℕ) (live : Live S) (c : Reached S D P Q X) where
+  paced : SomeLoop S → Paced S D true P Q
+  paced some = record { none = λ z. no-flag z; period = λ z. climbed-period S D P Q X (c .climbed) live some; lowest = λ z. c .climbed .lowest }
+
+  pub paced-above : 0 < P → Paced S D true P Q
+  paced-above b = paced (climbed-some S D P Q X (c .climbed) b)
+
+  module _ (n len at : ℕ) (rules : List ℕ) (f : FoundFirst S (TightRule S D P Q X) n len at rules) where
+    pub paced-tight : len ≢ 0 → Paced S D true P Q
+    paced-tight d = paced (record { at = at; loop = take len rules; is-loop = f .some (omega arith) .is-one .is-loop })
+
+    pub paced-none : len ≡ 0 → Paced S D false 0 0
+    paced-none e = record { none = λ z. climbed-none S D P Q X (c .climbed) (f .none e); period = λ z. no-flag (sym z); lowest = λ z. no-flag (sym z) }
+
+-- the same side for delays that agree
+pub paced-same : (S : Shape) (D E : ℕ → ℕ) → ((r : ℕ) → r < S.rules → D r ≡ E r) → (f : Bool) (p q : ℕ) → Paced S D f p q → Paced S E f p q
+paced-same S D E same f p q x = record { none = x .none; period = λ z. period-same S D E same p q (x .period z); lowest = x .lowest }
+
+met-exact : (p q P Q : ℕ) (e : Bool) → Meets p q P Q e → ExactRate (record { lowP = p; lowQ = q; highP = P; highQ = Q; exact = e })
+met-exact p q P Q true m = inl (m .0 refl .0, m .0 refl .1, refl)
+met-exact p q P Q false m = inr (m .1 refl, refl)
+
+pub ends-none : (S : Shape) (K : Ranges) (p q : ℕ) (r : Rating) (f : Bool) → Paced S K.least f p q → f ≡ false → r ≡ refusedRating 6 0 → RatedIn S K r
+ends-none S K p q r f x z e = inl (x .none z, e)
+
+pub ends-met : (S : Shape) (K : Ranges) → Proper S K → (p q P Q : ℕ) (f g : Bool) (r : Rating) → Paced S K.least f p q → f ≡ true → Paced S K.greatest g P Q → MetRating p q P Q r → RatedIn S K r
+ends-met S K proper p q P Q f true r x z y m =
+    inr (record { lowP = p; lowQ = q; highP = P; highQ = Q; exact = m .exact }, low-is S K proper p q (x .period z) (x .lowest z), high-is S K proper P Q (y .period refl) (y .lowest refl), met-exact p q P Q (m .exact) (m .meets), m .result)
+ends-met S K proper p q P Q f false r x z y m = let l = x .period z in absurd (y .none refl (l .at) (l .loop) (l .is-loop))
 
 module _ (t : Table) (w : Within t) (v : ℕ) (b : v < t .n) (s g o l h : List ℕ) (k : Bool) (c : Laid t (t .m) s g o l h k)
     (len at : ℕ) (rules : List ℕ) (zero : FoundFirst (shape s g o (t .m)) (λ i. getD o i 0 ≡ 0) (t .n) len at rules) where
@@ -188,35 +234,32 @@ module _ (t : Table) (w : Within t) (v : ℕ) (b : v < t .n) (s g o l h : List �
   rating-knotted r some e =
       record { verdict = knot-at at; judged = (w, b, subst (λ (S : Shape). Knot S at) (laid-shape t s g o l h k c) (first-knot (shape s g o (t .m)) at (take len rules) (zero .some some))); result = e }
 
-  -- THE LAP OF THE STEERED RULES IS THE RATE
+  -- THE ENDS OF THE STEERED RULES ARE THE RATE'S
   module _ (none : len ≤ 0) (f : List ℕ) (steers : Steers (shape s g o (t .m)) v (λ r. getD f r 0)) where
     live : Live (shape s g o (t .m))
     live = ends-live zero none
 
-    abbrev range : Answer → RateRange
-    range a = record { lowP = a .lowP; lowQ = a .lowQ; highP = a .highP; highQ = a .highQ; exact = a .exact }
+    pub live-toward : Live (shape f g o (t .m))
+    live-toward = live-steered (shape s g o (t .m)) v (λ r. getD f r 0) steers live
 
-    by-verdict : (lap : Lap) (x : Verdict) → JudgesIn (shape f g o (t .m)) (rangesIn l h) (t .n) x → lap ≡ lapOf x → RatingOf t v (madeRating lap)
-    by-verdict lap (outside j) i e = absurd i
-    by-verdict lap (knotted u) i e = absurd (knot-not-live (shape f g o (t .m)) u i (live-steered (shape s g o (t .m)) v (λ r. getD f r 0) steers live))
-    by-verdict lap flat i e =
-        let z = subst (λ (S : Shape). Live S × NoLoopTo S v) (laid-shape t s g o l h k c) (live, none-plain (shape s g o (t .m)) v (λ r. getD f r 0) steers (i .1)) in
-        record { verdict = unreached; judged = (w, b, z .0, z .1); result = ap madeRating e }
-    by-verdict lap wide i e = absurd i
-    by-verdict lap (found a) i e =
-        let x = answers-same (shape f g o (t .m)) (rangesIn l h) (rangesOf t) (laid-least t s g o l h k c) (laid-greatest t s g o l h k c) (t .n) a (i .1) in
-        let y : Rates (shape s g o (t .m)) (rangesOf t) v (range a) =
+    flat : (r : Rating) → NoLoop (shape f g o (t .m)) → r ≡ refusedRating 6 0 → RatingOf t v r
+    flat r no-loop e =
+        let z = subst (λ (S : Shape). Live S × NoLoopTo S v) (laid-shape t s g o l h k c) (live, none-plain (shape s g o (t .m)) v (λ r. getD f r 0) steers no-loop) in
+        record { verdict = unreached; judged = (w, b, z .0, z .1); result = e }
+
+    found : (r : Rating) (a : RateRange) → LowEnd (shape f g o (t .m)) (rangesIn l h) (a .lowP) (a .lowQ) → HighEnd (shape f g o (t .m)) (rangesIn l h) (a .highP) (a .highQ) → ExactRate a → r ≡ ratedRating a
+        → RatingOf t v r
+    found r a low high meet e =
+        let S = shape s g o (t .m) in
+        let y : Rates (shape s g o (t .m)) (rangesOf t) v a =
         record {
-          low = low-plain (shape s g o (t .m)) v (λ r. getD f r 0) steers (rangesOf t) (a .lowP) (a .lowQ) (x .low);
-          high = high-plain (shape s g o (t .m)) v (λ r. getD f r 0) steers (rangesOf t) (a .highP) (a .highQ) (x .high);
-          meet = x .meet;
+          low = low-plain S v (λ r. getD f r 0) steers (rangesOf t) _ _ (low-same (shape f g o (t .m)) (rangesIn l h) (rangesOf t) (laid-least t s g o l h k c) (laid-greatest t s g o l h k c) _ _ low);
+          high = high-plain S v (λ r. getD f r 0) steers (rangesOf t) _ _ (high-same (shape f g o (t .m)) (rangesIn l h) (rangesOf t) (laid-least t s g o l h k c) (laid-greatest t s g o l h k c) _ _ high);
+          meet = meet;
         } in
-        let z = subst (λ (S : Shape). Live S × Rates S (rangesOf t) v (range a)) (laid-shape t s g o l h k c) (live, y) in
-        record {
-          verdict = rated (range a);
-          judged = (w, b, z .0, z .1, rate-never-wide t w v b _ (z .1));
-          result = ap madeRating e;
-        }
+        let z = subst (λ (S : Shape). Live S × Rates S (rangesOf t) v a) (laid-shape t s g o l h k c) (live, y) in
+        record { verdict = rated a; judged = (w, b, z .0, z .1, rate-never-wide t w v b a (z .1)); result = e }
 
-    pub rating-lap : (lap : Lap) → LapIn (shape f g o (t .m)) (rangesIn l h) (t .n) lap → RatingOf t v (madeRating lap)
-    rating-lap lap x = by-verdict lap (x .verdict) (x .judged) (x .result)
+    pub rating-ends : (r : Rating) → RatedIn (shape f g o (t .m)) (rangesIn l h) r → RatingOf t v r
+    rating-ends r (inl x) = flat r (x .0) (x .1)
+    rating-ends r (inr x) = found r (x .0) (x .1) (x .2) (x .3) (x .4)

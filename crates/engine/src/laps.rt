@@ -89,7 +89,7 @@ fn measured(
 }
 
 // Whether p/q and r/s, both in lowest terms, are equal.
-fn meet(p: u64, q: u64, r: u64, s: u64) -> bool
+pub fn meet(p: u64, q: u64, r: u64, s: u64) -> bool
     ensures { λ e. ⌜ Meets p q r s e ⌝ }
 {
     if p == r {

@@ -1,10 +1,10 @@
 // The engine: the lap of a table, the rate of one of its transitions, and whether a loop of it has no turn. What works on columns is in the crates `columns`, `search` and `loops`.
+mod ends;
 mod laps;
 mod reach;
 
-ghost use mathlib.Core.Path.{_≡_};
 ghost use Rattle.engine.specs.Lap.{LapOf};
-ghost use Rattle.engine.specs.Rate.{refusedRating, madeRating, RatingOf};
+ghost use Rattle.engine.specs.Rate.{RatingOf};
 ghost use Rattle.engine.specs.Turn.{TurnOf};
 use table::Table;
 
@@ -69,52 +69,17 @@ pub struct Rating {
 
 const NAME: u32 = 10;
 
-fn unrated(refusal: u32, place: usize) -> Rating
-    ensures { λ r. ⌜ r ≡ refusedRating refusal place ⌝ }
-{
-    let none = Ratio { p: 0, q: 0 };
-    Rating {
-        refusal: refusal,
-        place: place,
-        exact: false,
-        low: none,
-        high: none,
-    }
-}
-
-fn rated(lap: Lap) -> Rating
-    ensures { λ r. ⌜ r ≡ madeRating lap ⌝ }
-{
-    let least = lap.low;
-    let greatest = lap.high;
-    let low = Ratio {
-        p: least.p,
-        q: least.q,
-    };
-    let high = Ratio {
-        p: greatest.p,
-        q: greatest.q,
-    };
-    Rating {
-        refusal: lap.refusal,
-        place: lap.place,
-        exact: lap.exact,
-        low: low,
-        high: high,
-    }
-}
-
-// The rate of transition v: the lap of the same rules, steered so that only the loops that reach v are left; or refused 3, 10, 5, 6 or 11, in this order.
+// The rate of transition v: the two ends of the same rules, steered so that only the loops that reach v are left; or refused 3, 10, 5, 6 or 11, in this order.
 pub fn rate(t: Table, v: usize) -> Rating
     ensures { λ r. ⌜ RatingOf t v r ⌝ }
 {
     let checked = table::check(t);
     if 0 < checked.refusal {
-        return unrated(checked.refusal, checked.place);
+        return ends::unrated(checked.refusal, checked.place);
     }
     let n = t.n;
     if n <= v {
-        return unrated(NAME, n);
+        return ends::unrated(NAME, n);
     }
     let c = columns::lay(t);
     let source = c.source;
@@ -122,12 +87,12 @@ pub fn rate(t: Table, v: usize) -> Rating
     let offset = c.offset;
     let zero = loops::zero_loop(&source, &target, &offset, t.m, n);
     if 0 < zero.len {
-        return unrated(laps::LOOP, zero.at);
+        return ends::unrated(laps::LOOP, zero.at);
     }
     let steered = reach::toward(&source, &target, t.m, v);
     let least = c.least;
     let greatest = c.greatest;
-    let lap = laps::laps(
+    ends::ends(
         &steered,
         &target,
         &offset,
@@ -136,8 +101,7 @@ pub fn rate(t: Table, v: usize) -> Rating
         c.blank,
         t.m,
         n,
-    );
-    rated(lap)
+    )
 }
 
 // Refused 3 at a field outside its limits, or 5 at the lowest transition on a loop without a turn; 0 and 0 where every loop turns.

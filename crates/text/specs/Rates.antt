@@ -9,6 +9,7 @@
 --   alikeRates x y       two rates are the same, or both are refused alike
 --   groupText a v        the line of the transitions that share the rate of v, where v is the lowest of them; else nothing
 --   GroupOf a v r        THE PROMISE of `group`: r holds it
+--   told s               the number that the digits s say, or one of 1,000 or more where they say one
 --
 -- Theorems: file-rate-unique, rate-report-unique, listing-unique, group-unique (one outcome each).
 use mathlib.Core.Path.{_≡_, refl, sym, ap, _∙_, subst}
@@ -111,6 +112,19 @@ groupText a v = pick (ltb v (a .n)) (pick (ltb v 256) (pick (earlierThan (a .rat
 
 abbrev pub GroupOf : Listing → ℕ → Text → Type 0
 GroupOf a v r = Holds r (groupText a v)
+
+-- ------------------------------------------------------------------------------------------------------------------------- a transition's name
+
+-- one digit more; no transition has a number from 1,000 on, so that what stands after does not matter
+abbrev pub moreTold : ℕ → ℕ → ℕ
+moreTold v d = pick (ltb v 1000) (v * 10 + (d - 48)) v
+
+unfoldable pub toldTo : List ℕ → ℕ → ℕ
+toldTo s zero = 0
+toldTo s (suc i) = moreTold (toldTo s i) (getD s i 0)
+
+abbrev pub told : List ℕ → ℕ
+told s = toldTo s (length s)
 
 -- ------------------------------------------------------------------------------------------------------------------------------------- theorems
 
@@ -258,3 +272,23 @@ module _ (a : Listing) (v : ℕ) (r : Text) where
 
   pub group-first : v < a .n → v < 256 → earlierThan (a .rates) v v ≡ false → Holds r (groupLine a v) → GroupOf a v r
   group-first b c e h = simp (lt-ltb v (a .n) b, lt-ltb v 256 c, e) h
+
+-- the loop over the digits
+pub told-none : (s : List ℕ) → 0 ≡ toldTo s 0
+unfolding toldTo
+told-none s = refl
+
+pub told-next : (s : List ℕ) (i v r : ℕ) → v ≡ toldTo s i → r ≡ moreTold v (getD s i 0) → r ≡ toldTo s (i + 1)
+unfolding toldTo
+told-next s i v r e h = rw (add-one, ← e) h
+
+pub more-stays : (v d : ℕ) → 1000 ≤ v → v ≡ moreTold v d
+more-stays v d b = simp (le-ltb v 1000 b)
+
+pub more-adds : (v d : ℕ) → v < 1000 → v * 10 + (d - 48) ≡ moreTold v d
+more-adds v d b = simp (lt-ltb v 1000 b)
+
+-- as `rate` is told them
+pub told-digits : (told (ascii "0") ≡ 0) × (told (ascii "17") ≡ 17) × (told (ascii "255") ≡ 255)
+unfolding toldTo
+told-digits = (refl, refl, refl)

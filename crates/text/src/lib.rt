@@ -12,7 +12,7 @@ ghost use Rattle.period.specs.Promise.{refusedRate, RateOf};
 ghost use Rattle.text.specs.Text.{refusedLine, Holds, ReportOf};
 ghost use Rattle.text.specs.Made.{TableReport};
 ghost use Rattle.text.specs.Pair.{PairOf};
-ghost use Rattle.text.specs.Rates.{rateLine, groupLine, FileRate, RateReport, noRate, ListingOf, GroupOf};
+ghost use Rattle.text.specs.Rates.{rateLine, groupLine, FileRate, RateReport, noRate, ListingOf, GroupOf, moreTold, told};
 use period::Rated;
 use period::Ratio;
 use table::Table;
@@ -208,4 +208,37 @@ pub fn group(all: Listing, v: usize) -> Text
         return nothing();
     }
     group_line(all, v)
+}
+
+fn digit_value(x: u8) -> usize
+    ensures { λ r. ⌜ (r ≡ x) × (r < 256) ⌝ }
+{
+    x as usize
+}
+
+// One digit more. From 1,000 on the number is that of no transition, and stays.
+fn shifted(v: usize, digit: u8) -> usize
+    ensures { λ r. ⌜ r ≡ moreTold v digit ⌝ }
+{
+    let d = digit_value(digit);
+    if 1000 <= v {
+        return v;
+    }
+    if d < 48 {
+        return v * 10;
+    }
+    v * 10 + (d - 48)
+}
+
+// The transition that decimal digits name.
+pub fn transition(digits: &[u8]) -> usize
+    ensures { λ r. ⌜ r ≡ told (now (digits .entry)) ⌝ }
+{
+    let mut v = 0;
+    let mut i = 0;
+    while i < digits.len() {
+        v = shifted(v, digits[i]);
+        i += 1;
+    }
+    v
 }

@@ -5,6 +5,7 @@
 --   Climbed S D P Q X       == X is the least list of values that keeps every rule at P/Q, in lowest terms, and P/Q is 0/1 or some closed walk's
 --   climbed-tight           if there is a loop, there is one of rules that are tight at X
 --   climbed-period          and P/Q is the period
+--   climbed-some            above 0/1 there is a loop
 --   climbed-schedule        the first n values are the least schedule
 --   climbed-reported        the first loop of tight rules is the reported loop
 --   climbed-none            if there is no loop of tight rules, there is no loop
@@ -81,6 +82,16 @@ module _ (S : Shape) (D : ℕ → ℕ) (P Q : ℕ) (X : List ℕ) (c : Climbed S
       let l = climbed-tight s in
       certified S D P Q X (c .keeps) (l .at) (l .loop) (c .Q-pos) (l .is-loop) (live (l .at) (l .loop) (l .is-loop))
       (attaining-of-rules S D P Q X (c .keeps) (l .at) (l .loop) (l .is-loop .closed) (l .kind))
+
+  -- above 0/1 the ratio is a closed walk's, and that has a loop in it
+  pub climbed-some : 0 < P → SomeLoop S
+  climbed-some b = ⊎-elim (λ z. absurd (omega (arith, z .0))) walk (c .attained)
+    where
+      walk : ((a : ℕ) × (e : ℕ) × ClosedWalk S D a e × (Q * a ≡ P * e)) → SomeLoop S
+      walk (a, e, w, t) =
+          let l = closed-loop S (TightRule S D P Q X) (w .at) (w .walk) (w .some-rule) (w .closed)
+          (rules-of-attaining S D P Q X (c .keeps) (w .at) (w .walk) (w .closed) (omega (arith, t, ap (λ x. Q * x) (w .delays-are), ap (λ x. P * x) (w .offsets-are)))) in
+          record { at = l .at; loop = l .loop; is-loop = l .is-loop }
 
   pub climbed-reported : (u : ℕ) (rs : List ℕ) → FirstLoop S (TightRule S D P Q X) u rs → Reported S D P Q u rs
   climbed-reported = first-reported S D P Q X (c .keeps)

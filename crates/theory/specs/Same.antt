@@ -1,6 +1,6 @@
 -- Delays, and ranges of delays, that agree below the last rule give the same answers: nobody looks past it.
 --
---   period-same, reported-same, schedule-same, answers-same
+--   period-same, reported-same, schedule-same, low-same, high-same, answers-same
 use mathlib.Core.Path.{_≡_, refl, sym, ap, _∙_}
 use mathlib.Core.List.{List, [], _∷_}
 use Prim.Native.Nat.{ℕ, _+_, _*_, _≤_, _<_}
@@ -14,6 +14,7 @@ use Rattle.model.specs.Period.{Attains, Period}
 use Rattle.model.specs.Schedule.{Keeps, Schedule, LeastSchedule}
 use Rattle.model.specs.Reported.{Reported}
 use Rattle.model.specs.Filling.{Ranges, Filling}
+use Rattle.model.specs.Ends.{LowEnd, HighEnd}
 use Rattle.model.specs.Answer.{Answer, Answers}
 
 module _ (S : Shape) (D E : ℕ → ℕ) (same : (r : ℕ) → r < S.rules → D r ≡ E r) where
@@ -63,17 +64,25 @@ module _ (S : Shape) (K K′ : Ranges) (least : (r : ℕ) → r < S.rules → K.
   filling-back : (D : ℕ → ℕ) → Filling S K′ D → Filling S K D
   filling-back D f r b = omega (arith, f r b, least r b, greatest r b)
 
+  pub low-same : (P Q : ℕ) → LowEnd S K P Q → LowEnd S K′ P Q
+  low-same P Q x =
+      record {
+        attained = record { D = x .attained .D; fills = filling-same _ (x .attained .fills); period = x .attained .period; lowest = x .attained .lowest };
+        least = λ E f. x .least E (filling-back E f);
+      }
+
+  pub high-same : (P Q : ℕ) → HighEnd S K P Q → HighEnd S K′ P Q
+  high-same P Q x =
+      record {
+        attained = record { D = x .attained .D; fills = filling-same _ (x .attained .fills); period = x .attained .period; lowest = x .attained .lowest };
+        greatest = λ E f. x .greatest E (filling-back E f);
+      }
+
   pub answers-same : (n : ℕ) (a : Answer) → Answers S K n a → Answers S K′ n a
   answers-same n a x =
       record {
-        low = record {
-          attained = record { D = x .low .attained .D; fills = filling-same _ (x .low .attained .fills); period = x .low .attained .period; lowest = x .low .attained .lowest };
-          least = λ E f. x .low .least E (filling-back E f);
-        };
-        high = record {
-          attained = record { D = x .high .attained .D; fills = filling-same _ (x .high .attained .fills); period = x .high .attained .period; lowest = x .high .attained .lowest };
-          greatest = λ E f. x .high .greatest E (filling-back E f);
-        };
+        low = low-same _ _ (x .low);
+        high = high-same _ _ (x .high);
         meet = x .meet;
         low-at = x .low-at;
         low-loop = reported-same S K.least K′.least least _ _ _ _ (x .low-loop);

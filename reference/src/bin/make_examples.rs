@@ -1,7 +1,8 @@
 //! Writes the folder of examples: for each a rule file (.rules), its text form
-//! with a line that says what it shows (.txt), and what `report` prints
-//! (.expected). In `bids/`, a folder for each pair of files that `bids` lays
-//! side by side: both, what they show (about.txt), and what it prints (expected).
+//! with a line that says what it shows (.txt), what `report` prints (.expected)
+//! and what `rate` prints for all its transitions (.rates). In `bids/`, a folder
+//! for each pair of files that `bids` lays side by side: both, what they show
+//! (about.txt), and what it prints (expected).
 //!
 //! Run in the package's folder: cargo run --release --bin make_examples
 
@@ -12,12 +13,12 @@ use std::path::Path;
 use reference::bids;
 use reference::file;
 use reference::notation;
-use reference::report::report;
+use reference::report::{rate_lines, report};
 use reference::table::Table;
 use reference::vectors;
 
 /// Name, what it shows, the table.
-const WORKED: [(&str, &str, &str); 8] = [
+const WORKED: [(&str, &str, &str); 9] = [
     (
         "p1",
         "P1: one loop; its delays add up to the period",
@@ -53,6 +54,11 @@ const WORKED: [(&str, &str, &str); 8] = [
         "p8",
         "P8: no loop, refused; simulated twice: 0 0 0 5",
         "n 2: 0>1/1/5",
+    ),
+    (
+        "front-end",
+        "A front end of lap 3 that feeds a loop of lap 10; no loop reaches 4",
+        "n 5: 0>1/0/1, 1>0/1/2, 1>2/0/5, 2>3/0/4, 3>2/1/6, 4>0/0/9",
     ),
 ];
 
@@ -188,7 +194,11 @@ fn write_example(folder: &Path, name: &str, heading: &str, table: &Table) -> io:
     let text = format!("{heading}{}", wrapped(&notation::write(table)));
     fs::write(folder.join(name).with_extension("rules"), &bytes)?;
     fs::write(folder.join(name).with_extension("txt"), text)?;
-    fs::write(folder.join(name).with_extension("expected"), report(&bytes))
+    fs::write(folder.join(name).with_extension("expected"), report(&bytes))?;
+    fs::write(
+        folder.join(name).with_extension("rates"),
+        rate_lines(&bytes),
+    )
 }
 
 /// The names of the transitions as a comment, so that a reader can tell 3 from 5.

@@ -1,10 +1,9 @@
--- `rate` meets its contract: the lap of the steered rules is the rate (`rating-lap`).
+-- `rate` meets its contract: the ends of the steered rules are the rate's (`rating-ends`).
 -- Assumes nothing.
-use mathlib.Core.Path.{sym, subst}
 use native.Mathlib.Omega.{arith}
 use Rattle.columns.specs.Lay.{judged-outside, judged-within, laid-limits, laid-ordered}
 use Rattle.engine.specs.Reach.{within-limits, steers-offsets, limits-steered}
-use Rattle.engine.specs.Rate.{RatingOf, rating-outside, rating-unnamed, rating-knotted, rating-lap}
+use Rattle.engine.specs.Rate.{rating-outside, rating-unnamed, rating-knotted, live-toward, rating-ends}
 use borrow.Author.Needs.{needs}
 use Rattle.engine.proofs.rate.Statement.{statement}
 use Rattle.engine.proofs.rate.Tie as tie
@@ -57,27 +56,31 @@ toward-requires c κs =
     let l = laid-limits t w _ _ _ _ _ _ (c .before .before .before .before .before .before .before .before .before .before .before .lay .ensures) in
     (within-limits _ _ _ _ _ l, omega (arith, e .if2 .left, l .few-transitions))
 
-laps-requires : tie.Need-laps-requires
-laps-requires c κs =
+ends-requires : tie.Need-ends-requires
+ends-requires c κs =
     let e = c .before .before .before .before .before .before .before .before .before .before .before .before .before .before .before .before .before .before .before .before in
     let k = e .before .before .before in
     let t = k .before .args .t in
     let w = judged-within t _ (k .check .ensures) (e .before .if1 .left) in
     let y = c .before .before .before .before .before .before .before .before .before .before .before .before .before .before .before .before .before .before .before .lay .ensures in
-    (limits-steered _ _ _ _ _ _ (c .before .before .before .before .before .before .before .toward .result) (laid-limits t w _ _ _ _ _ _ y) (e .if2 .left) (c .before .before .before .before .before .before .before .toward .ensures), laid-ordered t w _ _ _ _ _ _ y)
-
-rated-requires : tie.Need-rated-requires
-rated-requires c κs = search needs
+    let l = laid-limits t w _ _ _ _ _ _ y in
+    let f = c .before .before .before .before .before .before .before .toward .result in
+    let s = steers-offsets _ _ _ _ _ _ f l (e .if2 .left) (c .before .before .before .before .before .before .before .toward .ensures) in (
+      limits-steered _ _ _ _ _ _ f l (e .if2 .left) (c .before .before .before .before .before .before .before .toward .ensures),
+      laid-ordered t w _ _ _ _ _ _ y,
+      live-toward t w _ (e .if2 .left) _ _ _ _ _ _ y _ _ _ (c .before .before .before .before .before .before .before .before .before .before .before .before .zero-loop .ensures) (c .before .before .before .before .before .before .before .before .before .before .if3 .left) f s,
+    )
 
 returns-4 : tie.Need-returns-4
 returns-4 c =
-    let e = c .before .before .before .before .before .before .before .before .before .before .before .before .before .before .before .before .before .before .before .before .before .before in
+    let e = c .before .before .before .before .before .before .before .before .before .before .before .before .before .before .before .before .before .before .before .before .before in
     let k = e .before .before .before in
     let t = k .before .args .t in
     let w = judged-within t _ (k .check .ensures) (e .before .if1 .left) in
-    let y = c .before .before .before .before .before .before .before .before .before .before .before .before .before .before .before .before .before .before .before .before .before .lay .ensures in
-    let s = steers-offsets _ _ _ _ _ _ (c .before .before .before .before .before .before .before .before .before .toward .result) (laid-limits t w _ _ _ _ _ _ y) (e .if2 .left) (c .before .before .before .before .before .before .before .before .before .toward .ensures) in
-    subst (RatingOf t _) (sym (c .rated .ensures)) (rating-lap t w _ (e .if2 .left) _ _ _ _ _ _ y _ _ _ (c .before .before .before .before .before .before .before .before .before .before .before .before .before .before .zero-loop .ensures) (c .before .before .before .before .before .before .before .before .before .before .before .before .if3 .left) (c .before .before .before .before .before .before .before .before .before .toward .result) s _ (c .before .laps .ensures))
+    let y = c .before .before .before .before .before .before .before .before .before .before .before .before .before .before .before .before .before .before .before .before .lay .ensures in
+    let f = c .before .before .before .before .before .before .before .before .toward .result in
+    let s = steers-offsets _ _ _ _ _ _ f (laid-limits t w _ _ _ _ _ _ y) (e .if2 .left) (c .before .before .before .before .before .before .before .before .toward .ensures) in
+    rating-ends t w _ (e .if2 .left) _ _ _ _ _ _ y _ _ _ (c .before .before .before .before .before .before .before .before .before .before .before .before .before .zero-loop .ensures) (c .before .before .before .before .before .before .before .before .before .before .before .if3 .left) f s _ (c .ends .ensures)
 
 pub rate-spec : {M : Type 1} → statement M
 rate-spec =
@@ -93,6 +96,5 @@ rate-spec =
     unrated-requires-3
     returns-3
     toward-requires
-    laps-requires
-    rated-requires
+    ends-requires
     returns-4)
