@@ -1,7 +1,7 @@
 -- The rules of a kind, listed by number, and the columns of the listed rules only.
 --
 --   Listed A list len m            == the first len places of the list hold the rules below m of the kind A, lowest first
---   listed-none, listed-add, listed-skip   the loop that lists them
+--   listed-none, listed-add, listed-past, listed-skip   the loop that lists them
 --   listed-few                     every listed number is the number of a rule of the columns
 --   Gathered column list len xs    == place j of xs holds the column's entry for rule j of the list
 --   gathered-add                   the loop that gathers them
@@ -44,10 +44,24 @@ module _ (A : ℕ → Type 0) (list : List ℕ) where
         all = λ q l a. by-cases (ℕ-discrete q r) (λ e. absurd (n (rw e at a))) (λ d. h .all q (omega arith) a);
       }
 
+  -- the places before stay as they were
+  kept-before : (len r j : ℕ) → j < len → getD (set list len r) j 0 ≡ getD list j 0
+  kept-before len r j l = getD-set-other list len j r 0 (λ e. omega arith)
+
+  -- what stands past them does not count
+  pub listed-past : (len m x : ℕ) → Listed A list len m → Listed A (set list len x) len m
+  listed-past len m x h =
+      record {
+        few = h .few;
+        below = λ j l. omega (arith, kept-before len x j l, h .below j l);
+        kind = λ j l. rw (kept-before len x j l) (h .kind j l);
+        ascending = λ i j s l. omega (arith, kept-before len x i (omega arith), kept-before len x j l, h .ascending i j s l);
+        all = λ q l a. let t = h .all q l a in (t .0, t .1, kept-before len x (t .0) (t .1) ∙ t .2);
+      }
+
   module _ (len r : ℕ) (h : Listed A list len r) (a : A r) (room : len < length list) where
-    -- the places before stay as they were
     kept : (j : ℕ) → j < len → getD (set list len r) j 0 ≡ getD list j 0
-    kept j l = getD-set-other list len j r 0 (λ e. omega arith)
+    kept = kept-before len r
 
     last : getD (set list len r) len 0 ≡ r
     last = getD-set-same list len r 0 room

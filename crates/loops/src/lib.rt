@@ -67,8 +67,8 @@ fn zero_rules(offset: &[u16; 2048], m: usize) -> Kind
     let mut len = 0;
     let mut r = 0;
     while r < m {
+        rules[len] = narrow(r); // written in any case: a branch round it would often be guessed wrongly
         if wide(offset[r]) == 0 {
-            rules[len] = narrow(r);
             len += 1;
         }
         r += 1;
@@ -112,8 +112,8 @@ fn tight_rules(
     while r < m {
         let s = wide(source[r]);
         let t = wide(target[r]);
+        rules[len] = narrow(r);
         if tight(x[s], x[t], offset[r], delay[r], p, q) {
-            rules[len] = narrow(r);
             len += 1;
         }
         r += 1;

@@ -3,11 +3,11 @@
 --
 --   lift                        == 15 turns
 --   Bids i s t e a most         == rule i, from s to t with offset e and delay a, may ask: no sum wraps
---   Bid i s t most₀ par₀ most par   == t took what it asks, with i for its parent, or has more
+--   Bid i s t most₀ par₀ most par   == t has what it asks, with i for its parent, or what it had
 --   Bidding S most par k        == the values and parents after k rules
---   bid-taken, bid-kept, bidding-start, bidding-skip, bidding-bids, bidding-on       the loop over the rules
+--   bid-made, bidding-start, bidding-skip, bidding-bids, bidding-on       the loop over the rules
 use mathlib.Core.Path.{_≡_, refl, ap}
-use mathlib.Core.Logic.{_⊎_, inl, inr, ⊎-elim, by-cases}
+use mathlib.Core.Logic.{_⊎_, ⊎-elim, by-cases}
 use mathlib.Core.List.{List}
 use Prim.Native.Nat.{ℕ, suc, _+_, _*_, _-_, _≤_, _<_}
 use native.Mathlib.Omega.{arith}
@@ -32,8 +32,12 @@ pub record Bids (i s t e a : ℕ) (most : List ℕ) : Type 0 where
   pub value-low : getD most s 0 ≤ 8000000000
 
 pub record Bid (i s t : ℕ) (most₀ par₀ most par : List ℕ) : Type 0 where
-  pub kept-or-taken : ((most ≡ most₀) × (par ≡ par₀))
-      ⊎ ((y : ℕ) × ((b : ℕ) → lift ≤ b → getD most₀ s 0 ≤ b → y ≤ b + 1000001) × (most ≡ set most₀ t y) × (par ≡ set par₀ t (i + 1)))
+  pub value : ℕ
+  pub parent : ℕ
+  pub low : (b : ℕ) → lift ≤ b → getD most₀ s 0 ≤ b → getD most₀ t 0 ≤ b → value ≤ b + 1000001
+  pub old-or-new : (parent ≡ getD par₀ t 0) ⊎ (parent ≡ i + 1)
+  pub most-is : most ≡ set most₀ t value
+  pub par-is : par ≡ set par₀ t parent
 
 pub record Bidding (S : Shape) (most par : List ℕ) (k : ℕ) : Type 0 where
   pub room : length most ≡ 256
@@ -41,13 +45,18 @@ pub record Bidding (S : Shape) (most par : List ℕ) (k : ℕ) : Type 0 where
   pub valid : Valid S par
   pub low : (v : ℕ) → getD most v 0 ≤ lift + k * 1000001
 
--- what a transition takes is at most what the source has, or 15 turns, and a delay and 1
-pub bid-taken : {i s t : ℕ} {most par : List ℕ} (e a r : ℕ) → ((b : ℕ) → lift ≤ b → getD most s 0 ≤ b → r ≤ b) → a ≤ 1000000
-    → Bid i s t most par (set most t (r + a + 1 - 256000000 * e)) (set par t (i + 1))
-bid-taken e a r low short = record { kept-or-taken = inr (r + a + 1 - 256000000 * e, (λ b l v. omega (arith, low b l v)), refl, refl) }
-
-pub bid-kept : {i s t : ℕ} {most par : List ℕ} → Bid i s t most par most par
-bid-kept = record { kept-or-taken = inl (refl, refl) }
+-- what a transition has then is what it had, or at most what the source has, or 15 turns, and a delay and 1
+pub bid-made : {i s t : ℕ} {most par : List ℕ} (e a r y z : ℕ) → ((b : ℕ) → lift ≤ b → getD most s 0 ≤ b → r ≤ b) → a ≤ 1000000
+    → (y ≡ getD most t 0) ⊎ (y ≡ r + a + 1 - 256000000 * e) → (z ≡ getD par t 0) ⊎ (z ≡ i + 1) → Bid i s t most par (set most t y) (set par t z)
+bid-made e a r y z low short had old =
+    record {
+      value = y;
+      parent = z;
+      low = λ b l v w. ⊎-elim (λ k. omega arith) (λ k. omega (arith, low b l v)) had;
+      old-or-new = old;
+      most-is = refl;
+      par-is = refl;
+    }
 
 pub bidding-start : {S : Shape} → Bidding S (replicate 256 0) (replicate 256 0) 0
 bidding-start =
@@ -75,7 +84,18 @@ module _ {source target offset most par : List ℕ} {m n i k : ℕ} (delay : Lis
       }
 
   pub bidding-on : {most′ par′ : List ℕ} → Bid i (getD source i 0) (getD target i 0) most par most′ par′ → Bidding (shape source target offset m) most′ par′ (k + 1)
-  bidding-on {most′} {par′} bid = ⊎-elim keep take (bid .kept-or-taken)
+  bidding-on {most′} {par′} bid =
+      rw (bid .most-is, bid .par-is)
+      (record {
+        room = simp length-set (h .room);
+        par-room = simp length-set (h .par-room);
+        valid = λ v r e. by-cases (ℕ-discrete v t) (λ s. ⊎-elim (old v r e s) (new v r e s) (bid .old-or-new)) (λ d. h .valid v r (rw (getD-set-other par t v (bid .parent) 0 d) at e));
+        low = λ v.
+            by-cases (ℕ-discrete v t)
+            (λ s. rw (s, getD-set-same most t (bid .value) 0 (omega (arith, inside, h .room)))
+            (omega (arith, bid .low (lift + k * 1000001) (omega arith) (h .low (getD source i 0)) (h .low t))))
+            (λ d. rw (getD-set-other most t v (bid .value) 0 d) (omega (arith, h .low v)));
+      })
     where
       t : ℕ
       t = getD target i 0
@@ -83,23 +103,13 @@ module _ {source target offset most par : List ℕ} {m n i k : ℕ} (delay : Lis
       inside : t < 256
       inside = omega (arith, limits .fits i is-rule, limits .few-transitions)
 
-      keep : (most′ ≡ most) × (par′ ≡ par) → Bidding (shape source target offset m) most′ par′ (k + 1)
-      keep (x, y) = rw (x, y) (record { room = h .room; par-room = h .par-room; valid = h .valid; low = λ v. omega (arith, h .low v) })
+      set-here : getD (set par t (bid .parent)) t 0 ≡ bid .parent
+      set-here = getD-set-same par t (bid .parent) 0 (omega (arith, inside, h .par-room))
 
-      take : (y : ℕ) × ((b : ℕ) → lift ≤ b → getD most (getD source i 0) 0 ≤ b → y ≤ b + 1000001) × (most′ ≡ set most t y) × (par′ ≡ set par t (i + 1))
-          → Bidding (shape source target offset m) most′ par′ (k + 1)
-      take (y, low, x, z) =
-          rw (x, z)
-          (record {
-            room = simp length-set (h .room);
-            par-room = simp length-set (h .par-room);
-            valid = λ v r e.
-                by-cases (ℕ-discrete v t)
-                (λ s. let same : r ≡ i = omega (arith, ap (λ u. getD (set par t (i + 1)) u 0) s, getD-set-same par t (i + 1) 0 (omega (arith, inside, h .par-room))) in
-                rw (same, s) (is-rule, refl))
-                (λ d. h .valid v r (rw (getD-set-other par t v (i + 1) 0 d) at e));
-            low = λ v.
-                by-cases (ℕ-discrete v t)
-                (λ s. rw (s, getD-set-same most t y 0 (omega (arith, inside, h .room))) (omega (arith, low (lift + k * 1000001) (omega arith) (h .low (getD source i 0)))))
-                (λ d. rw (getD-set-other most t v y 0 d) (omega (arith, h .low v)));
-          })
+      old : (v r : ℕ) → getD (set par t (bid .parent)) v 0 ≡ suc r → v ≡ t → bid .parent ≡ getD par t 0 → (r < m) × (getD target r 0 ≡ v)
+      old v r e s o = rw s (h .valid t r (omega (arith, o, set-here, ap (λ u. getD (set par t (bid .parent)) u 0) s)))
+
+      new : (v r : ℕ) → getD (set par t (bid .parent)) v 0 ≡ suc r → v ≡ t → bid .parent ≡ i + 1 → (r < m) × (getD target r 0 ≡ v)
+      new v r e s o =
+          let same : r ≡ i = omega (arith, o, set-here, ap (λ u. getD (set par t (bid .parent)) u 0) s) in
+          rw (same, s) (is-rule, refl)

@@ -1,6 +1,7 @@
 // The ratio to start from. At a ratio that no loop is above, each transition takes the rule that asks most of it; where the parents so chosen come round
 // they have one of the best quotients, and most often the best.
 ghost use mathlib.Core.Path.{_≡_};
+ghost use mathlib.Core.Logic.{_⊎_};
 ghost use Prim.Native.Nat.{ℕ, _≤_};
 ghost use Rattle.columns.specs.Columns.{shape, delayAt, Limits, Short};
 ghost use Rattle.search.specs.Search.{Started};
@@ -29,6 +30,20 @@ fn lifted(value: u64) -> u64
     value
 }
 
+// The larger of two values. This and the next are chosen without a branch, which the machine would often guess wrongly.
+fn larger(x: u64, y: u64) -> u64
+    ensures { λ r. ⌜ (r ≡ x) ⊎ (r ≡ y) ⌝ }
+{
+    if x < y { y } else { x }
+}
+
+// The new parent where y is more than x, else the old one.
+fn parent(x: u64, y: u64, old: u16, new: u16) -> u16
+    ensures { λ r. ⌜ (r ≡ old) ⊎ (r ≡ new) ⌝ }
+{
+    if x < y { new } else { old }
+}
+
 // Rule i, from s to t with offset e and delay a, is t's parent if it asks for more than the others did.
 fn bid(i: usize, s: u16, t: u16, e: u16, a: u32, most: &mut [u64; 256], par: &mut [u16; 256])
     requires { ⌜ Bids i s t e a (now most) ⌝ }
@@ -37,10 +52,10 @@ fn bid(i: usize, s: u16, t: u16, e: u16, a: u32, most: &mut [u64; 256], par: &mu
     let from = s as usize;
     let to = t as usize;
     let asked = lifted(most[from]) + (a as u64) + 1 - TURN * (e as u64);
-    if most[to] < asked {
-        most[to] = asked;
-        par[to] = (i + 1) as u16;
-    }
+    let new = (i + 1) as u16;
+    let had = most[to];
+    most[to] = larger(had, asked);
+    par[to] = parent(had, asked, par[to], new);
 }
 
 // The parents so chosen, and a closed walk of them, where there is one.

@@ -7,7 +7,7 @@ use lib.ListN.{length, getD, length-set}
 use mathlib.Core.Logic.{⊎-elim}
 use Rattle.theory.specs.Schedule.{TightRule}
 use Rattle.columns.specs.Columns.{shape, delayAt}
-use Rattle.loops.specs.Listed.{Listed, listed-none, listed-add, listed-skip}
+use Rattle.loops.specs.Listed.{Listed, listed-none, listed-add, listed-past, listed-skip}
 use native.Mathlib.Omega.{arith}
 use borrow.Author.Needs.{needs}
 use Rattle.loops.proofs.tight_rules.Statement.{statement}
@@ -41,16 +41,16 @@ wide-requires-2 : tie.Need-wide-requires-2 Inv-loop μ-loop
 wide-requires-2 c κs = omega arith
 
 mul-tight : tie.Need-mul-tight Inv-loop μ-loop
-mul-tight c = let i = c .before .before .before .before in omega (arith, i .before .before .pre .0 .fits (i .before .loop .r) (i .loop-test .taken))
+mul-tight c = let i = c .before .before .before .before .before in omega (arith, i .before .before .pre .0 .fits (i .before .loop .r) (i .loop-test .taken))
 
 element-copy-out-tight : tie.Need-element-copy-out-tight Inv-loop μ-loop
-element-copy-out-tight c = let i = c .before .before .before .before in omega (arith, i .before .before .pre .0 .fits (i .before .loop .r) (i .loop-test .taken))
+element-copy-out-tight c = let i = c .before .before .before .before .before in omega (arith, i .before .before .pre .0 .fits (i .before .loop .r) (i .loop-test .taken))
 
 mul-tight-2 : tie.Need-mul-tight-2 Inv-loop μ-loop
-mul-tight-2 c = let i = c .before .before .before .before .before in omega (arith, i .before .before .pre .0 .fits (i .before .loop .r) (i .loop-test .taken))
+mul-tight-2 c = let i = c .before .before .before .before .before .before in omega (arith, i .before .before .pre .0 .fits (i .before .loop .r) (i .loop-test .taken))
 
 element-copy-out-tight-2 : tie.Need-element-copy-out-tight-2 Inv-loop μ-loop
-element-copy-out-tight-2 c = let i = c .before .before .before .before .before in omega (arith, i .before .before .pre .0 .fits (i .before .loop .r) (i .loop-test .taken))
+element-copy-out-tight-2 c = let i = c .before .before .before .before .before .before in omega (arith, i .before .before .pre .0 .fits (i .before .loop .r) (i .loop-test .taken))
 
 mul-tight-3 : tie.Need-mul-tight-3 Inv-loop μ-loop
 mul-tight-3 c = omega arith
@@ -66,7 +66,7 @@ element-copy-out-tight-4 c = omega arith
 
 tight-requires : tie.Need-tight-requires Inv-loop μ-loop
 tight-requires c κs =
-    let i = c .before .before .before .before .before .before .before .before in
+    let i = c .before .before .before .before .before .before .before .before .before in
     let s = i .before .before .pre in
     (s .1 .1 .2 _, s .1 .1 .2 _, s .0 .small-offsets _ (i .loop-test .taken), s .1 .0 _ (i .loop-test .taken), s .1 .1 .0, s .1 .1 .1)
 
@@ -90,17 +90,18 @@ loop-less c = omega arith
 
 loop-again : tie.Need-loop-again Inv-loop μ-loop
 loop-again c =
-    let l = c .before .before .before .before .before .before .before .before .before .before .before in
+    let l = c .before .before .before .before .before .before .before .before .before .before .before .before in
     let a = l .before .args in
     let A = TightRule (shape (a .source .now) (a .target .now) (a .offset .now) (a .m)) (delayAt (a .delay .now)) (a .p) (a .q) (a .x .now) in
-    let from = ap (λ v. getD (a .x .now) v 0) (c .before .before .before .before .before .before .before .before .wide .ensures) in
-    let to = ap (λ v. getD (a .x .now) v 0) (c .before .before .before .before .before .before .wide2 .ensures) in
+    let from = ap (λ v. getD (a .x .now) v 0) (c .before .before .before .before .before .before .before .before .before .wide .ensures) in
+    let to = ap (λ v. getD (a .x .now) v 0) (c .before .before .before .before .before .before .before .wide2 .ensures) in
+    let n = c .before .before .before .before .before .before .narrow .ensures in
     let e = c .before .tight .ensures in (
       omega arith,
-      ⊎-elim (λ w. rw (w .2) (simp length-set (l .loop .inv .1))) (λ w. rw (w .1) (l .loop .inv .1)) (c .if1 .came),
+      simp length-set (l .loop .inv .1),
       ⊎-elim
-          (λ w. rw (w .2, w .3, w .1 .ensures) (listed-add A (l .loop .rules) (l .loop .len) (l .loop .r) (l .loop .inv .2) (omega (arith, e .0 (w .0 .taken))) (omega (arith, l .loop .inv .2 .few, l .before .pre .0 .few-rules))))
-          (λ w. rw (w .1, w .2) (listed-skip A (l .loop .rules) (l .loop .len) (l .loop .r) (l .loop .inv .2) (λ t. e .1 (w .0 .left) (omega (arith, t)))))
+          (λ w. rw (w .1, n) (listed-add A (l .loop .rules) (l .loop .len) (l .loop .r) (l .loop .inv .2) (omega (arith, e .0 (w .0 .taken))) (omega (arith, l .loop .inv .2 .few, l .before .pre .0 .few-rules))))
+          (λ w. rw (w .1, n) (listed-skip A _ (l .loop .len) (l .loop .r) (listed-past A (l .loop .rules) (l .loop .len) (l .loop .r) (l .loop .r) (l .loop .inv .2)) (λ t. e .1 (w .0 .left) (omega (arith, t)))))
           (c .if1 .came),
     )
 
@@ -123,6 +124,9 @@ tight-rules-spec =
     mul-wide-2
     element-copy-out-wide-2
     wide-requires-2
+    narrow-requires
+    mul-rules
+    array-write-rules
     mul-tight
     element-copy-out-tight
     mul-tight-2
@@ -132,9 +136,6 @@ tight-rules-spec =
     mul-tight-4
     element-copy-out-tight-4
     tight-requires
-    narrow-requires
-    mul-rules
-    array-write-rules
     add-len
     add-r
     loop-less

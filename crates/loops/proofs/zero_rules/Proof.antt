@@ -1,11 +1,11 @@
 -- `loops::zero_rules` meets its contract: the rules of offset 0, lowest first.
 -- The loop's invariant: the list holds those below r. The measure is the number of rules left.
 -- Assumes nothing.
-use Prim.Native.Nat.{_-_, _≤_}
+use Prim.Native.Nat.{ℕ, _-_, _≤_}
 use mathlib.Core.Path.{_≡_}
 use lib.ListN.{length, getD, length-set}
 use mathlib.Core.Logic.{⊎-elim}
-use Rattle.loops.specs.Listed.{Listed, listed-none, listed-add, listed-skip}
+use Rattle.loops.specs.Listed.{Listed, listed-none, listed-add, listed-past, listed-skip}
 use native.Mathlib.Omega.{arith}
 use borrow.Author.Needs.{needs}
 use Rattle.loops.proofs.zero_rules.Statement.{statement}
@@ -49,13 +49,15 @@ loop-less c = omega arith
 
 loop-again : tie.Need-loop-again Inv-loop μ-loop
 loop-again c =
-    let l = c .before .before .before .before in
-    let s = l .before .args in (
+    let l = c .before .before .before .before .before in
+    let s = l .before .args in
+    let A : ℕ → Type 0 = λ i. getD (s .offset .now) i 0 ≡ 0 in
+    let n = c .before .before .before .narrow .ensures in (
       omega arith,
-      ⊎-elim (λ w. rw (w .2) (simp length-set (l .loop .inv .1))) (λ w. rw (w .1) (l .loop .inv .1)) (c .if1 .came),
+      simp length-set (l .loop .inv .1),
       ⊎-elim
-          (λ w. rw (w .2, w .3, w .1 .ensures) (listed-add (λ i. getD (s .offset .now) i 0 ≡ 0) (l .loop .rules) (l .loop .len) (l .loop .r) (l .loop .inv .2) (omega (arith, w .0 .taken)) (omega (arith, l .loop .inv .2 .few))))
-          (λ w. rw (w .1, w .2) (listed-skip (λ i. getD (s .offset .now) i 0 ≡ 0) (l .loop .rules) (l .loop .len) (l .loop .r) (l .loop .inv .2) (λ e. omega (arith, w .0 .left))))
+          (λ w. rw (w .1, n) (listed-add A (l .loop .rules) (l .loop .len) (l .loop .r) (l .loop .inv .2) (omega (arith, w .0 .taken)) (omega (arith, l .loop .inv .2 .few))))
+          (λ w. rw (w .1, n) (listed-skip A _ (l .loop .len) (l .loop .r) (listed-past A (l .loop .rules) (l .loop .len) (l .loop .r) (l .loop .r) (l .loop .inv .2)) (λ e. omega (arith, w .0 .left))))
           (c .if1 .came),
     )
 
@@ -72,12 +74,12 @@ zero-rules-spec =
     Inv-loop
     μ-loop
     loop-holds
-    mul-wide
-    element-copy-out-wide
-    wide-requires
     narrow-requires
     mul-rules
     array-write-rules
+    mul-wide
+    element-copy-out-wide
+    wide-requires
     add-len
     add-r
     loop-less

@@ -1,8 +1,8 @@
--- `above::bid` meets its contract.
+-- `search::above::bid` meets its contract.
 -- Assumes nothing.
 use native.Mathlib.Omega.{arith}
 use borrow.Author.Needs.{needs}
-use Rattle.search.specs.Above.{bid-taken, bid-kept}
+use Rattle.search.specs.Above.{bid-made}
 use Rattle.search.proofs.above.bid.Statement.{statement}
 use Rattle.search.proofs.above.bid.Tie as tie
 
@@ -27,11 +27,20 @@ mul-asked c = search needs
 sub-asked : tie.Need-sub-asked
 sub-asked c = search needs
 
-mul-if1 : tie.Need-mul-if1
-mul-if1 c = search needs
+add-new : tie.Need-add-new
+add-new c = search needs
 
-element-copy-out-if1 : tie.Need-element-copy-out-if1
-element-copy-out-if1 c = search needs
+cast-new : tie.Need-cast-new
+cast-new c = search needs
+
+mul-had : tie.Need-mul-had
+mul-had c = search needs
+
+element-copy-out-had : tie.Need-element-copy-out-had
+element-copy-out-had c = search needs
+
+larger-requires : tie.Need-larger-requires
+larger-requires c κs = search needs
 
 mul-most : tie.Need-mul-most
 mul-most c = search needs
@@ -39,11 +48,14 @@ mul-most c = search needs
 element-write-most : tie.Need-element-write-most
 element-write-most c = search needs
 
-add-par : tie.Need-add-par
-add-par c = search needs
+mul-parent : tie.Need-mul-parent
+mul-parent c = search needs
 
-cast-par : tie.Need-cast-par
-cast-par c = search needs
+element-copy-out-parent : tie.Need-element-copy-out-parent
+element-copy-out-parent c = search needs
+
+parent-requires : tie.Need-parent-requires
+parent-requires c κs = search needs
 
 mul-par : tie.Need-mul-par
 mul-par c = search needs
@@ -52,10 +64,7 @@ element-write-par : tie.Need-element-write-par
 element-write-par c = search needs
 
 returns : tie.Need-returns
-returns c = bid-taken _ _ _ (c .before .before .lifted .ensures .1) (c .before .before .before .before .pre .delay-low)
-
-returns-2 : tie.Need-returns-2
-returns-2 c = bid-kept
+returns c = bid-made _ _ _ _ _ (c .before .before .before .before .lifted .ensures .1) (c .before .before .before .before .before .before .pre .delay-low) (c .before .before .larger .ensures) (c .parent .ensures)
 
 pub bid-spec : {M : Type 1} → statement M
 bid-spec =
@@ -68,13 +77,16 @@ bid-spec =
     add-asked-2
     mul-asked
     sub-asked
-    mul-if1
-    element-copy-out-if1
+    add-new
+    cast-new
+    mul-had
+    element-copy-out-had
+    larger-requires
     mul-most
     element-write-most
-    add-par
-    cast-par
+    mul-parent
+    element-copy-out-parent
+    parent-requires
     mul-par
     element-write-par
-    returns
-    returns-2)
+    returns)
