@@ -11,8 +11,8 @@
 --   Stays, remnant-stays        == every transition on a closed walk remains
 --   remnant-loop, loop-remnant  A REMNANT IS LEFT EXACTLY WHEN THERE IS A LOOP
 --   zero-remnant, remnant-zero  and of the rules of offset 0, exactly when some loop has offset sum 0
-use mathlib.Core.Path.{_≡_, refl, ap, sym, subst}
-use mathlib.Core.Logic.{_⊎_, inl, inr, ⊎-elim, by-cases, _≢_}
+use mathlib.Core.Path.{_≡_, refl, ap, subst}
+use mathlib.Core.Logic.{_⊎_, ⊎-elim}
 use mathlib.Core.List.{List, [], _∷_, map}
 use Prim.Native.Nat.{ℕ, zero, suc, _≤_, _<_}
 use native.Mathlib.Omega.{arith}

@@ -17,15 +17,15 @@ use Prim.Native.Nat.{ℕ, zero, suc, _+_, _-_, _≤_, _<_}
 use native.Mathlib.Omega.{arith}
 use native.Mathlib.Numerals.{add-one}
 use native.Mathlib.Decide.{ℕ-discrete}
-use lib.ListN.{length, getD, set, replicate, length-set, length-replicate, getD-replicate, length-append}
+use lib.ListN.{length, getD, set, replicate, getD-replicate, length-append}
 use lib.Seq.{getD-set-same, getD-set-other}
-use Rattle.model.specs.Shape.{Shape, Fits}
+use Rattle.model.specs.Shape.{Shape}
 use Rattle.theory.specs.Relax.{zeros-at}
 use Rattle.columns.specs.Columns.{Limits}
 use Rattle.loops.specs.Listed.{plain}
 use Rattle.loops.specs.Sum.{sum, sum-but, sign, sign-some, sign-none, sign-most, total, total-set, inside}
 use Rattle.loops.specs.Linked.{Linked, Points, points-first, points-last, points-rule, points-next, points-all, Row, row-set}
-use Rattle.loops.specs.Peel.{Remains, Entered, Left, Loose, StruckOut, Remnant}
+use Rattle.loops.specs.Peel.{Entered, Left, Loose, StruckOut, Remnant}
 
 -- --------------------------------------------------------------------------------------------------------------------------------- counts
 
@@ -118,9 +118,6 @@ tallied-any S alive v k entering h w =
 -- v, which no rule enters, is struck: the rules that leave it count until they are looked at
 module _ (S : Shape) (alive : List ℕ) (v p : ℕ) (entering : List ℕ) (h : Tallied S alive 0 0 (S.rules) entering) (here : getD alive v 0 ≡ 1) (none : getD entering v 0 ≡ 0)
     (all : (r : ℕ) → r < S.rules → S.source r ≡ v → r < p) where
-  struck-now : getD (set alive v 0) v 0 ≡ 0
-  struck-now = getD-set-same alive v 0 0 (inside alive v (omega arith))
-
   to-struck : (w r : ℕ) → r < S.rules → Enters S alive 0 0 w r → Enters S (set alive v 0) v p w r
   to-struck w r l c =
       let d : w ≢ v = λ e. tally-none (Enters S alive 0 0 v) (S.rules) (getD entering v 0) (h v) none r l (rw e at c) in

@@ -17,7 +17,6 @@ use native.Mathlib.Decide.{ℕ-discrete, decLt}
 use lib.ListN.{length, getD, set, replicate, getD-replicate}
 use lib.Seq.{getD-set-same, getD-set-other}
 use Rattle.model.specs.Shape.{Shape}
-use Rattle.model.specs.Walk.{Walk}
 use Rattle.loops.specs.Sum.{sum, sum-but, sum-most, sign, sign-some, sign-none, sign-most, inside}
 use Rattle.loops.specs.Linked.{Row, row-none, row-set}
 use Rattle.loops.specs.Near.{Way, Near, near-none, near-put, Settled, away-other}

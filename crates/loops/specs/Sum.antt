@@ -3,7 +3,7 @@
 --   sum k f           == the sum of f over the numbers below k; sum-same, sum-but: equal functions, and two that agree but at one number; sum-most
 --   sign x            == 1 where x is above 0; sign-some, sign-none, sign-most
 --   total k xs        == the sum of the first k numbers of a list; total-set, total-falls: one of them replaced, and by a lower one
-use mathlib.Core.Path.{_≡_, refl, ap}
+use mathlib.Core.Path.{_≡_, refl}
 use mathlib.Core.Logic.{by-cases, _≢_}
 use mathlib.Core.Bool.{Bool, true, false}
 use mathlib.Core.List.{List}

@@ -1,7 +1,7 @@
 -- `engine::peel::strike_unentered` meets its contract: transitions are struck that no remaining rule enters, until there is none.
 -- The loop's invariant: those before `done` were struck, the others wait, and rules are counted. The measure is the number of transitions not struck.
 -- Assumes nothing.
-use Prim.Native.Nat.{_-_, _<_}
+use Prim.Native.Nat.{_-_}
 use mathlib.Core.Path.{refl}
 use Rattle.loops.specs.Listed.{plain}
 use Rattle.loops.specs.Peeling.{Striking, striking-starts, striking-next, striking-ends}
