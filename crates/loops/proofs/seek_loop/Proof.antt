@@ -53,7 +53,7 @@ route-requires c κs =
     let a = s .args in
     let near = c .before .before .before .before .before .near .ensures in
     let k = c .before .before .before .before .wide .ensures in
-    rw k (ready (a .source .now) (a .target .now) (a .len) (a .n) _ _ _ (s .pre .0) (c .before .before .before .before .before .before .before .before .before .before .loop-test .taken) (near .0) (near .1) (c .before .ways .ensures) (rw k at (c .before .before .before .if2 .taken)))
+    rw k (ready (a .source .now) (a .target .now) (a .len) (a .n) _ _ _ (s .pre .0) (c .before .before .before .before .before .before .before .before .before .before .loop-test .taken) (near .0) (near .1) (c .before .ways .ensures) (omega (arith, k, c .before .before .before .if2 .taken)))
 
 returns : tie.Need-returns Inv-loop μ-loop
 returns c =
@@ -62,7 +62,7 @@ returns c =
     let a = s .args in
     let near = c .before .before .before .before .before .before .near .ensures in
     let k = c .before .before .before .before .before .wide .ensures in
-    rw k (found-here (a .source .now) (a .target .now) (a .len) (a .n) _ _ _ (s .pre .0) (c .before .before .before .before .before .before .before .before .before .before .before .loop-test .taken) (near .0) (near .1) (c .before .before .ways .ensures) (rw k at (c .before .before .before .before .if2 .taken)) (a .list .now) _ (l .loop .inv .1) (rw k at (c .route .ensures)))
+    rw k (found-here (a .source .now) (a .target .now) (a .len) (a .n) _ _ _ (s .pre .0) (c .before .before .before .before .before .before .before .before .before .before .before .loop-test .taken) (near .0) (near .1) (c .before .before .ways .ensures) (omega (arith, k, c .before .before .before .before .if2 .taken)) (a .list .now) _ (l .loop .inv .1) (rw k at (c .route .ensures)))
 
 add-at : tie.Need-add-at Inv-loop μ-loop
 add-at c = omega arith
