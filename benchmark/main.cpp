@@ -296,6 +296,48 @@ static void simulation_part(FILE* data) {
     printf("\n");
 }
 
+// ------------------------------------------------------------------------------------------------------ loops of offset 0
+
+// One occurrence is simulated, or refused: little else is done than to tell whether some loop has offset sum 0.
+static void loop_of(const char* name, const Table& t, uint32_t refusal, size_t place) {
+    period_status status = simulate(t, 1);
+    if (status.refusal != refusal || status.place != place) wrong("refusal", name, 0);
+    printf("%-44s %9.1f microseconds\n", name, measured(TABLES, [&](int) { simulate(t, 1); }));
+}
+
+static Table without_loop(int n) {
+    Random random{1};
+    Table t;
+    t.n = size_t(n);
+    for (int r = 0; r < HIGHEST_M; r++) {
+        int from = random.between(0, n - 2);
+        t.add(from, random.between(from + 1, n - 1), 0, 1);
+    }
+    return t;
+}
+
+static void loops_part() {
+    Table chain, bridges;
+    chain.n = bridges.n = HIGHEST_N;
+    for (int v = HIGHEST_N - 1; v > 0; v--) chain.add(v - 1, v, 0, 1);
+    for (int v = 0; v < 252; v++) {
+        bridges.add(253, v, 0, 1);
+        bridges.add(v, 254, 0, 1);
+    }
+    for (int v : {252, 254}) {
+        bridges.add(v, v + 1, 0, 1);
+        bridges.add(v + 1, v, 0, 1);
+    }
+    printf("Loops of offset 0, one occurrence simulated:\n");
+    loop_of("none: a chain of 255 rules listed backwards", chain, 0, 0);
+    loop_of("none: 2,048 rules, 256 transitions", without_loop(256), 0, 0);
+    loop_of("none: 2,048 rules, 64 transitions", without_loop(64), 0, 0);
+    chain.add(255, 0, 0, 1);
+    loop_of("the chain closed", chain, 5, 0);
+    loop_of("252 transitions between two loops", bridges, 5, 252);
+    printf("\n");
+}
+
 #endif
 
 // ------------------------------------------------------------------------------------------------------------------ growth
@@ -344,6 +386,7 @@ int main(int count, char** words) {
     FILE* simulation = data_file(folder, "simulation.dat");
     simulation_part(simulation);
     fclose(simulation);
+    loops_part();
 #endif
     FILE* growth = data_file(folder, "growth.dat");
     growth_part(growth);
