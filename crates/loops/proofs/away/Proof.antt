@@ -1,4 +1,4 @@
--- `engine::first::away` meets its contract: how far a transition is from v.
+-- `loops::away` meets its contract: how far a transition is from v.
 -- Assumes nothing.
 use mathlib.Core.Path.{sym, _∙_}
 use Rattle.loops.specs.Near.{away-home, away-other}

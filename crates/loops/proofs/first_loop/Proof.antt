@@ -1,4 +1,4 @@
--- `engine::first::first_loop` meets its contract: there is a loop only where peeling leaves a remnant, and then it is sought.
+-- `loops::first_loop` meets its contract: there is a loop only where peeling leaves a remnant, and then it is sought.
 -- Assumes nothing.
 use Rattle.loops.specs.Listed.{plain}
 use Rattle.loops.specs.Peel.{remnant-stays}

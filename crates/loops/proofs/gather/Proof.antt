@@ -1,4 +1,4 @@
--- `engine::first::gather` meets its contract: the column of the listed rules.
+-- `loops::gather` meets its contract: the column of the listed rules.
 -- The loop's invariant: the places written so far hold the column's entries. The measure is the number of places left.
 -- Assumes nothing.
 use Prim.Native.Nat.{_-_, _≤_}

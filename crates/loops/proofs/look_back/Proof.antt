@@ -1,4 +1,4 @@
--- `engine::first::look_back` meets its contract: the rules into t are looked at, and each source not found before is d away.
+-- `loops::look_back` meets its contract: the rules into t are looked at, and each source not found before is d away.
 -- The loop's invariant: so it is of the rules looked at. The measure is the place of the next rule.
 -- Assumes nothing.
 use Prim.Native.Nat.{_-_}

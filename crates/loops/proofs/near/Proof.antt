@@ -1,4 +1,4 @@
--- `engine::first::near` meets its contract: the least number of rules from each transition to v.
+-- `loops::near` meets its contract: the least number of rules from each transition to v.
 -- The loop's invariant: the rules into v and into those before `done` in the queue were looked at. The measure is the number of places left in the queue.
 -- Assumes nothing.
 use Prim.Native.Nat.{_-_}

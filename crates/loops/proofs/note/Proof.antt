@@ -1,4 +1,4 @@
--- `engine::first::note` meets its contract: a transition's distance is put down unless it was found before.
+-- `loops::note` meets its contract: a transition's distance is put down unless it was found before.
 -- Assumes nothing.
 use mathlib.Core.Path.{refl}
 use native.Mathlib.Omega.{arith}

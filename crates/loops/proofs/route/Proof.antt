@@ -1,4 +1,4 @@
--- `engine::first::route` meets its contract: the rules followed from v, by their numbers.
+-- `loops::route` meets its contract: the rules followed from v, by their numbers.
 -- The loop's invariant: the rules written, and those still to be followed, are the whole walk. The measure is the number of rules left.
 -- Assumes nothing.
 use Prim.Native.Nat.{_-_, _≤_, _<_}

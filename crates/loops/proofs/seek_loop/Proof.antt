@@ -1,4 +1,4 @@
--- `engine::first::seek_loop` meets its contract: the first loop of the gathered rules.
+-- `loops::seek_loop` meets its contract: the first loop of the gathered rules.
 -- The loop's invariant: no loop starts at a transition tried before. The measure is the number of transitions left to try.
 -- Assumes nothing.
 use Prim.Native.Nat.{_-_, _≤_}

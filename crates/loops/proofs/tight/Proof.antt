@@ -1,4 +1,4 @@
--- `engine::first::tight` meets its contract: a rule is kept with nothing to spare. No product is wider than 2^62.
+-- `loops::tight` meets its contract: a rule is kept with nothing to spare. No product is wider than 2^62.
 -- Assumes nothing.
 use Prim.Native.Nat.{_*_, _≤_}
 use mathlib.Core.Path.{refl, ap}

@@ -1,4 +1,4 @@
--- `engine::first::tight_loop` meets its contract: the first loop of tight rules: that of the listed rules, by their numbers.
+-- `loops::tight_loop` meets its contract: the first loop of tight rules: that of the listed rules, by their numbers.
 -- Assumes nothing.
 use Rattle.loops.specs.Listed.{listed-few, limits-picked, limits-most}
 use Rattle.loops.specs.Found.{found-kind}

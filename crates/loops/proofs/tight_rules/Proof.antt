@@ -1,4 +1,4 @@
--- `engine::first::tight_rules` meets its contract: the tight rules, lowest first.
+-- `loops::tight_rules` meets its contract: the tight rules, lowest first.
 -- The loop's invariant: the list holds those below r. The measure is the number of rules left.
 -- Assumes nothing.
 use Prim.Native.Nat.{_-_, _≤_}

@@ -1,4 +1,4 @@
--- `engine::first::ways` meets its contract: at each transition the lowest rule that comes one nearer.
+-- `loops::ways` meets its contract: at each transition the lowest rule that comes one nearer.
 -- The loop goes down; its invariant: so it is of the rules looked at. The measure is the number of rules left.
 -- Assumes nothing.
 use Prim.Native.Nat.{_-_, _≤_}

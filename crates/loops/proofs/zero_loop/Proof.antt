@@ -1,4 +1,4 @@
--- `engine::first::zero_loop` meets its contract: the first loop of rules of offset 0: that of the listed rules, by their numbers.
+-- `loops::zero_loop` meets its contract: the first loop of rules of offset 0: that of the listed rules, by their numbers.
 -- Assumes nothing.
 use mathlib.Core.Path.{_≡_}
 use lib.ListN.{getD}

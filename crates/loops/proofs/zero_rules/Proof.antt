@@ -1,4 +1,4 @@
--- `engine::first::zero_rules` meets its contract: the rules of offset 0, lowest first.
+-- `loops::zero_rules` meets its contract: the rules of offset 0, lowest first.
 -- The loop's invariant: the list holds those below r. The measure is the number of rules left.
 -- Assumes nothing.
 use Prim.Native.Nat.{_-_, _≤_}

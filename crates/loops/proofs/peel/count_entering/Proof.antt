@@ -1,4 +1,4 @@
--- `engine::peel::count_entering` meets its contract: how many remaining rules enter each transition.
+-- `loops::peel::count_entering` meets its contract: how many remaining rules enter each transition.
 -- The loop's invariant: of the rules passed, those that remain are counted. The measure is the number of rules left.
 -- Assumes nothing.
 use Prim.Native.Nat.{_-_, _≤_}

@@ -1,4 +1,4 @@
--- `engine::peel::link` meets its contract: the rules at each transition, linked from the last to the first.
+-- `loops::peel::link` meets its contract: the rules at each transition, linked from the last to the first.
 -- The loop's invariant: the rules passed are linked. The measure is the number of rules left.
 -- Assumes nothing.
 use Prim.Native.Nat.{_-_, _≤_}

@@ -1,4 +1,4 @@
--- `engine::peel::list_unentered` meets its contract: the transitions that no remaining rule enters wait.
+-- `loops::peel::list_unentered` meets its contract: the transitions that no remaining rule enters wait.
 -- The loop's invariant: so it is of the transitions passed. The measure is the number of transitions left.
 -- Assumes nothing.
 use Prim.Native.Nat.{_-_, _≤_, _<_}

@@ -1,4 +1,4 @@
--- `engine::peel::one_less` meets its contract: one rule less enters w, which waits now if that was the last.
+-- `loops::peel::one_less` meets its contract: one rule less enters w, which waits now if that was the last.
 -- Assumes nothing.
 use Prim.Native.Nat.{_-_}
 use mathlib.Core.Path.{refl}

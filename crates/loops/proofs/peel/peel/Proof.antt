@@ -1,4 +1,4 @@
--- `engine::peel::peel` meets its contract: the remnant, after those that no remaining rule enters and those that none leaves.
+-- `loops::peel::peel` meets its contract: the remnant, after those that no remaining rule enters and those that none leaves.
 -- Assumes nothing.
 use Rattle.loops.specs.Listed.{limits-back}
 use Rattle.loops.specs.Linked.{row-none}

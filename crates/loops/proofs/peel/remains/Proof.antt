@@ -1,4 +1,4 @@
--- `engine::peel::remains` meets its contract: a rule remains while both its ends do.
+-- `loops::peel::remains` meets its contract: a rule remains while both its ends do.
 -- Assumes nothing.
 use mathlib.Core.Path.{refl}
 use Rattle.loops.specs.Sum.{not-both}

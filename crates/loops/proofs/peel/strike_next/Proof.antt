@@ -1,4 +1,4 @@
--- `engine::peel::strike_next` meets its contract: the next transition that waits is struck, and one rule less enters each target of a rule that leaves it.
+-- `loops::peel::strike_next` meets its contract: the next transition that waits is struck, and one rule less enters each target of a rule that leaves it.
 -- The loop's invariant: so it is of the rules looked at. The measure is the place of the next rule.
 -- Assumes nothing.
 use Prim.Native.Nat.{_+_}

@@ -1,4 +1,4 @@
--- `engine::peel::strike_unentered` meets its contract: transitions are struck that no remaining rule enters, until there is none.
+-- `loops::peel::strike_unentered` meets its contract: transitions are struck that no remaining rule enters, until there is none.
 -- The loop's invariant: those before `done` were struck, the others wait, and rules are counted. The measure is the number of transitions not struck.
 -- Assumes nothing.
 use Prim.Native.Nat.{_-_}

@@ -1,4 +1,4 @@
--- `engine::peel::unentered` meets its contract: a transition that remains, though no rule enters it.
+-- `loops::peel::unentered` meets its contract: a transition that remains, though no rule enters it.
 -- Assumes nothing.
 use mathlib.Core.Path.{refl}
 use Rattle.loops.specs.Sum.{not-both}
