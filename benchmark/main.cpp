@@ -262,6 +262,26 @@ static void bids_part() {
     printf("\n");
 }
 
+// ------------------------------------------------------------------------------------------------------------------- rates
+
+static period_rate_result rate(const Table& t, size_t v) {
+    return period_rate(t.n, t.source.data(), t.m(), t.target.data(), t.m(), t.offset.data(), t.m(), t.delay.data(), t.m(), t.known.data(), t.m(), v);
+}
+
+static void rates_part() {
+    printf("The rate of one transition beside the whole analysis, %d tables a family taken in turn, microseconds.\n\n", TABLES);
+    printf("%-28s %9s %9s %14s\n", "family", "analysis", "rate", "rate/analysis");
+    for (const Family& family : families()) {
+        std::vector<Table> tables;
+        for (int k = 0; k < TABLES; k++) tables.push_back(make(family, FULL, uint64_t(k + 1)));
+        static Whole whole;
+        double all = measured(TABLES, [&](int k) { analyse(tables[k], whole); });
+        double one = measured(TABLES, [&](int k) { kept += rate(tables[k], size_t(37 * k) % tables[k].n).high_p; });
+        printf("%-28s %9.1f %9.1f %14.2f\n", family.name, all, one, one / all);
+    }
+    printf("\n");
+}
+
 // -------------------------------------------------------------------------------------------------------------- simulation
 
 static std::vector<uint64_t> times(HIGHEST_N * 1024);
@@ -383,6 +403,7 @@ int main(int count, char** words) {
 #ifndef ANALYSIS_ONLY
     files_part();
     bids_part();
+    rates_part();
     FILE* simulation = data_file(folder, "simulation.dat");
     simulation_part(simulation);
     fclose(simulation);

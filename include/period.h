@@ -44,7 +44,7 @@ enum period_refusal {
     PERIOD_RANGE = 3,    /* a value outside its limits (in a file: the number's first byte; of columns: the field in file order) */
     PERIOD_TAIL = 4,     /* bytes after the last rule (the first such byte) */
     PERIOD_LOOP = 5,     /* a loop with offset sum 0 (the lowest transition on any such loop) */
-    PERIOD_FLAT = 6,     /* no loop (0) */
+    PERIOD_FLAT = 6,     /* no loop, or none that reaches the transition whose rate is asked for (0) */
     PERIOD_UNKNOWN = 7,  /* simulation of a table with an unknown delay (the lowest such rule) */
     PERIOD_ROOM = 8,     /* a lent buffer or a column is too short (the length needed) */
     PERIOD_SPAN = 9,     /* occurrences not from 1 to 1024 (0) */
@@ -130,7 +130,8 @@ period_analysis period_analyse(
     uint32_t *low, size_t low_len,
     uint32_t *high, size_t high_len);
 
-/* The two ends of the rate of transition v: those of the table's period. No buffer is written.
+/* The two ends of the rate of transition v: the largest quotient over the loops from which v can be reached along rules, a loop that v lies on
+ * included, over all values of the unknown delays. 5 is a matter of the whole table; 6: no loop reaches v. No buffer is written.
  * Refused, in this order: 8 (a column), 3, 10, 5, 6, 11. */
 period_rate_result period_rate(
     size_t n,

@@ -222,13 +222,21 @@ pub fn analyse_into(
     answer(r.refusal, r.place, found)
 }
 
-/// The rate of transition v: the period range of the table.
+/// The rate of transition v: the largest quotient over the loops from which v can be reached along rules, a loop that it
+/// lies on included. [`Refusal::Loop`] is a matter of the whole table, and [`Refusal::Flat`] says that no loop reaches v.
 ///
 /// ```
 /// use vedhrunak_period::{rate, Delay, Ratio, Refusal, Table};
-/// let table = Table::new(2).rule(0, 0, 1, Delay::Known(5)).rule(0, 1, 0, Delay::Known(1));
-/// assert_eq!(rate(&table, 1).unwrap().high, Ratio { p: 5, q: 1 });
-/// assert_eq!(rate(&table, 2), Err(Refusal::Name { n: 2 }));
+/// // A front end of lap 3 feeds a loop of lap 10; no loop reaches transition 2.
+/// let table = Table::new(3)
+///     .rule(0, 0, 1, Delay::Known(3))
+///     .rule(0, 1, 0, Delay::Known(1))
+///     .rule(1, 1, 1, Delay::Known(10))
+///     .rule(2, 0, 0, Delay::Known(1));
+/// assert_eq!(rate(&table, 0).unwrap().high, Ratio { p: 3, q: 1 });
+/// assert_eq!(rate(&table, 1).unwrap().high, Ratio { p: 10, q: 1 });
+/// assert_eq!(rate(&table, 2), Err(Refusal::Flat));
+/// assert_eq!(rate(&table, 3), Err(Refusal::Name { n: 3 }));
 /// ```
 pub fn rate(t: &Table, v: usize) -> Result<Range, Refusal> {
     // SAFETY: each pointer stands beside the length of the slice it came from.

@@ -123,6 +123,24 @@ static void see_times(const char *where, const struct lap *l, period_status s, c
         same(where, "times", times[i], i < values ? l->times[i] : 77);
 }
 
+/* A front end of lap 3, transitions 0 and 1, that feeds a loop of lap 10, transitions 2 and 3; no loop reaches transition 4. */
+static void see_front_end(void)
+{
+    static const uint16_t source[] = {0, 1, 1, 2, 3, 4}, target[] = {1, 0, 2, 3, 2, 0}, offset[] = {0, 1, 0, 0, 1, 0};
+    static const uint32_t delay[] = {1, 2, 5, 4, 6, 9};
+    static const uint8_t known[] = {1, 1, 1, 1, 1, 1};
+    static const uint64_t rates[] = {3, 3, 10, 10, 0};
+    for (size_t v = 0; v < 5; v++) {
+        period_rate_result r = period_rate(5, source, 6, target, 6, offset, 6, delay, 6, known, 6, v);
+        same("front end", "refusal", r.refusal, v < 4 ? 0 : PERIOD_FLAT);
+        same("front end", "place", r.place, 0);
+        same("front end", "exact", r.exact, v < 4);
+        same("front end", "low p", r.low_p, rates[v]);
+        same("front end", "high p", r.high_p, rates[v]);
+        same("front end", "high q", r.high_q, v < 4);
+    }
+}
+
 static void see_lap(const struct lap *l)
 {
     struct buffers b;
@@ -334,6 +352,7 @@ int main(void)
         see_lap(&laps[i]);
         see_report(&laps[i]);
     }
+    see_front_end();
     see_refusals();
     see_bids();
     see_limit();

@@ -12,7 +12,7 @@
 use mathlib.Core.Path.{_≡_, refl, sym, ap, _∙_, subst}
 use mathlib.Core.Bool.{Bool, true, false}
 use mathlib.Core.Logic.{_≢_, _⊎_, inl, inr, ⊎-elim, by-cases}
-use mathlib.Core.List.{List, []}
+use mathlib.Core.List.{List}
 use Prim.Native.Nat.{ℕ, _≤_, _<_, _^_}
 use native.Mathlib.Omega.{arith}
 use native.Mathlib.Decide.{decLt}
@@ -39,7 +39,6 @@ use Rattle.table.specs.Limits.{maxOffset, maxDelay}
 use Rattle.table.specs.Form.{unusedRule}
 use Rattle.table.specs.Fields.{Within, FirstBad, within-or-first-bad, within-not-bad, first-bad-unique}
 use Rattle.table.specs.Meaning.{used, delayOf, shapeOf, rangesOf, within-fits, within-offsets, within-delays}
-use Rattle.engine.specs.declared.Ratio.{Ratio}
 use Rattle.engine.specs.declared.Rating.{Rating}
 use Rattle.columns.specs.Columns.{shape}
 use Rattle.loops.specs.Found.{FoundFirst}

@@ -60,7 +60,7 @@ fn connect(s: usize, cut: &mut [u8; 256], found: &mut [u16; 256], len: usize) ->
     len + 1
 }
 
-// Goes back over every rule that enters t, from the chain's first on.
+// Goes back over every rule that enters t, from the chain's first on. (target, m, v and t are there for the contract alone.)
 fn visit(
     source: &[u16; 2048],
     target: &[u16; 2048],

@@ -11,28 +11,31 @@
 --   GroupOf a v r        THE PROMISE of `group`: r holds it
 --   told s               the number that the digits s say, or one of 1,000 or more where they say one
 --
--- Theorems: file-rate-unique, rate-report-unique, listing-unique, group-unique (one outcome each).
+-- Theorems: file-rate-unique, rate-report-unique, listing-unique, group-unique (one outcome each), rate-first, listing-first (the first bytes decide).
 use mathlib.Core.Path.{_≡_, refl, sym, ap, _∙_, subst}
 use mathlib.Core.Bool.{Bool, true, false}
 use mathlib.Core.Logic.{by-cases, _≢_}
-use mathlib.Core.List.{List, [], _∷_, _++_, append-nil}
+use mathlib.Core.List.{List, [], _∷_, _++_}
 use Prim.Native.Nat.{ℕ, zero, suc, _+_, _-_, _*_, _≤_, _<_}
 use native.Mathlib.Omega.{arith}
 use native.Mathlib.Decide.{decLt, ℕ-discrete}
 use native.Mathlib.Numerals.{add-one}
 use lib.Dec.{ltb, eqb}
-use lib.ListN.{length, getD, set, replicate, length-replicate}
+use lib.ListN.{length, getD, set, take, replicate, length-replicate}
 use lib.Seq.{getD-set-same, getD-set-other}
 use borrow.Author.Tests.{lt-ltb, le-ltb, eq-eqb, ne-eqb}
+use Rattle.sevens.specs.Sevens.{Bytes}
 use Rattle.table.specs.declared.Table.{Table}
 use Rattle.rulefile.specs.declared.FileRead.{FileRead}
 use Rattle.rulefile.specs.File.{readOf}
+use Rattle.rulefile.specs.Length.{longest}
+use Rattle.rulefile.specs.First.{first-bytes}
 use Rattle.period.specs.declared.Rated.{Rated}
 use Rattle.period.specs.Promise.{refusedRate, RateOf, rate-unique}
 use Rattle.text.specs.declared.Text.{Text}
 use Rattle.text.specs.declared.Listing.{Listing}
 use Rattle.text.specs.Decimal.{ascii, pick, decimal, numbers, numbers-append}
-use Rattle.text.specs.Puts.{Puts, puts-none, puts-then, puts-same}
+use Rattle.text.specs.Puts.{Puts, puts-then, puts-same}
 use Rattle.text.specs.Text.{newline, ratio, room, Holds}
 
 -- ------------------------------------------------------------------------------------------------------------------------------- one transition
@@ -165,6 +168,14 @@ listing-unique s r r′ a b =
     same-listing r r′ (a .count z ∙ sym (b .count z))
     (same-rates (r .rates) (r′ .rates) (a .size ∙ sym (b .size))
     (λ v i. let k : v < 256 = omega (arith, a .size) in rate-unique (readOf s .table) v _ _ (a .own z v k) (b .own z v k))))
+
+-- THE FIRST BYTES DECIDE, as they do for a report
+pub rate-first : (s : List ℕ) (k : ℕ) → Bytes s → longest + 1 ≤ k → (v : ℕ) (r : Text) → RateReport (take k s) v r → RateReport s v r
+rate-first s k b h v r a =
+    record { rate = a .rate; is-rate = subst (λ (f : FileRead). ReadRate f v (a .rate)) (first-bytes s k b h) (a .is-rate); is-held = a .is-held }
+
+pub listing-first : (s : List ℕ) (k : ℕ) → Bytes s → longest + 1 ≤ k → (r : Listing) → ListingOf (take k s) r → ListingOf s r
+listing-first s k b h r a = subst (λ (f : FileRead). ReadListing f r) (first-bytes s k b h) a
 
 -- ------------------------------------------------------------------------------------------------------------------------- steps of the proofs
 

@@ -6,14 +6,14 @@
 --   own-linear               THERE IS A LINEAR TIMING FUNCTION WITH THESE RATES: (2.7), (2.8)
 --   periods-rise             the cycle periods of a linear timing function never fall along a rule: (2.8)
 --   linear-rates-minimum     and none is below the rate
-use mathlib.Core.Path.{_≡_, refl, sym, ap, _∙_, subst}
+use mathlib.Core.Path.{_≡_, refl, sym, ap, subst}
 use mathlib.Core.Logic.{_⊎_, inl, inr, ⊎-elim, by-cases}
 use mathlib.Core.List.{List, [], _∷_, _++_}
 use Prim.Native.Nat.{ℕ, zero, suc, _+_, _*_, _-_, _≤_, _<_}
 use native.Mathlib.Omega.{arith}
 use native.Mathlib.Nat.{mul-le-mul-left, mul-le-mul-right, mul-le-mul, le-of-mul-le-mul-right, le-antisymm, le-refl, lt-of-not-le}
 use native.Mathlib.Decide.{decLt, decLe}
-use lib.ListN.{length, getD}
+use lib.ListN.{getD}
 use Rattle.model.specs.Shape.{Shape, Fits}
 use Rattle.model.specs.Sums.{delays, offsets}
 use Rattle.model.specs.Distinct.{Distinct}
@@ -26,10 +26,9 @@ use Rattle.model.specs.Thesis.{OwnRates, LinearRates}
 use Rattle.theory.specs.Walk.{walk-append}
 use Rattle.theory.specs.Loop.{loop-start}
 use Rattle.theory.specs.Knot.{loop-or-none}
-use Rattle.theory.specs.Ratio.{divides-pos}
 use Rattle.theory.specs.Relax.{values}
 use Rattle.theory.specs.Period.{period-exists, schedule-above}
-use Rattle.theory.specs.Rate.{reach-here, reach-over, rule-reaches, steered, steering, rate-plain, live-steered, none-plain, fits-steered, loop-onward, rate-rises, rate-shared}
+use Rattle.theory.specs.Rate.{reach-here, rule-reaches, steered, steering, rate-plain, live-steered, none-plain, fits-steered, loop-onward, rate-rises}
 
 pub rate-scaled : (S : Shape) (D : ℕ → ℕ) (v P q Q k : ℕ) → 0 < Q → Q ≡ k * q → Rate S D v P q → Rate S D v (P * k) Q
 rate-scaled S D v P q Q k pos e x =

@@ -22,13 +22,13 @@ use native.Mathlib.Nat.{mul-le-mul-left, le-of-mul-le-mul-right}
 use native.Mathlib.Decide.{ℕ-discrete, decLt}
 use lib.ListN.{length}
 use Rattle.model.specs.Shape.{Shape, Fits}
-use Rattle.model.specs.Sums.{delays, offsets}
+use Rattle.model.specs.Sums.{offsets}
 use Rattle.model.specs.Distinct.{Distinct}
 use Rattle.model.specs.Walk.{Walk, sources}
 use Rattle.model.specs.Loop.{Loop, SomeLoop, NoLoop, Live}
 use Rattle.model.specs.Ratio.{Lowest}
-use Rattle.model.specs.Period.{Attains, Period}
-use Rattle.model.specs.Filling.{Ranges, Filling}
+use Rattle.model.specs.Period.{Period}
+use Rattle.model.specs.Filling.{Ranges}
 use Rattle.model.specs.Ends.{LowEnd, HighEnd}
 use Rattle.model.specs.Answer.{Answer}
 use Rattle.model.specs.Rate.{Reaches, LoopTo, SomeLoopTo, NoLoopTo, Rate, LowRate, HighRate, RateRange, ExactRate, Rates}
@@ -168,9 +168,6 @@ module _ (S : Shape) (v : ℕ) (f : ℕ → ℕ) (steers : Steers S v f) where
   -- what else is said of all loops
   pub live-steered : Live S → Live (steered S f)
   live-steered live u rs l = omega (arith, live u rs (loop-plain u rs l .is-loop), steered-offsets rs)
-
-  pub none-steered : NoLoopTo S v → NoLoop (steered S f)
-  none-steered none u rs l = none u rs (loop-plain u rs l)
 
   pub none-plain : NoLoop (steered S f) → NoLoopTo S v
   none-plain none u rs l = none u rs (loop-steered u rs l)
