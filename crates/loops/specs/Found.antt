@@ -148,15 +148,15 @@ found-none source target list len n v rules limits below l =
     }
 
 -- nothing remains: there is no loop
-pub found-peeled : (source target list : List ℕ) (len n : ℕ) (alive order : List ℕ) (k : ℕ) (rules : List ℕ) → Limits source target [] len n
-    → Peeled (plain source target len) n alive order k → n ≤ k → FoundIn (plain source target len) list n 0 0 rules
-found-peeled source target list len n alive order k rules limits p l =
+pub found-peeled : (source target list : List ℕ) (len n : ℕ) (alive : List ℕ) (k : ℕ) (rules : List ℕ) → Limits source target [] len n
+    → Peeled (plain source target len) n alive k → n ≤ k → FoundIn (plain source target len) list n 0 0 rules
+found-peeled source target list len n alive k rules limits p l =
     record {
       short = omega arith;
       at-below = limits .some-transition;
       none = λ e u js h.
           let v = loop-start (plain source target len) n (limits .fits) u js h in
-          peeled-none (plain source target len) n alive order k p l u v (loop-remnant (plain source target len) n (limits .fits) (limits .few-transitions) alive (p .remnant) u js h);
+          peeled-none (plain source target len) n alive k p l u v (loop-remnant (plain source target len) n (limits .fits) (limits .few-transitions) alive (p .remnant) u js h);
       some = λ z. absurd (omega arith);
     }
 

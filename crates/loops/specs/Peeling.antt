@@ -9,7 +9,7 @@
 --   Spread ..                  == where the loop over the rules that leave v is: those from p on are done
 --   Striking ..                == where the loop over those that wait is
 --   Stripped S n alive₀ alive order k   == k transitions were struck, each when no remaining rule entered it, until there was none
---   Peeled S n alive order k   == k transitions were struck, and the remnant is left
+--   Peeled S n alive k         == k transitions were struck, and the remnant is left
 use mathlib.Core.Path.{_≡_, refl, ap, sym, _∙_, subst}
 use mathlib.Core.Logic.{_⊎_, inl, inr, ⊎-elim, by-cases, _≢_}
 use mathlib.Core.List.{List, [], _∷_, _++_}
@@ -527,10 +527,9 @@ module _ (S : Shape) (n : ℕ) (alive₀ : List ℕ) where
 -- ------------------------------------------------------------------------------------------------------------------------------ the peeling
 
 -- k transitions were struck, and the remnant is left; order holds those that no remaining rule entered, in the order of their striking, and then zeros
-pub record Peeled (S : Shape) (n : ℕ) (alive order : List ℕ) (k : ℕ) : Type 0 where
+pub record Peeled (S : Shape) (n : ℕ) (alive : List ℕ) (k : ℕ) : Type 0 where
   pub remnant : Remnant S n alive
   pub counted : k + total n alive ≡ n
-  pub low : (i : ℕ) → getD order i 0 < n
 
 -- at first all n remain
 total-all : (n : ℕ) → n ≤ 256 → total n (replicate 256 1) ≡ n
@@ -544,8 +543,8 @@ total-least zero xs v l = absurd (omega arith)
 total-least (suc n) xs v l = by-cases (ℕ-discrete v n) (λ e. rw e (omega arith)) (λ d. omega (arith, total-least n xs v (omega arith)))
 
 -- all were struck: none remains
-pub peeled-none : (S : Shape) (n : ℕ) (alive order : List ℕ) (k : ℕ) → Peeled S n alive order k → n ≤ k → (v : ℕ) → v < n → getD alive v 0 ≢ 1
-peeled-none S n alive order k p l v b a = omega (arith, a, p .counted, total-least n alive v b)
+pub peeled-none : (S : Shape) (n : ℕ) (alive : List ℕ) (k : ℕ) → Peeled S n alive k → n ≤ k → (v : ℕ) → v < n → getD alive v 0 ≢ 1
+peeled-none S n alive k p l v b a = omega (arith, a, p .counted, total-least n alive v b)
 
 module _ (from to : List ℕ) (len n : ℕ) (limits : Limits from to [] len n) where
   -- the rules, and the rules turned round
@@ -602,7 +601,7 @@ module _ (from to : List ℕ) (len n : ℕ) (limits : Limits from to [] len n) w
 
   module _ (alive order : List ℕ) (k : ℕ) (first : Stripped one n (replicate 256 1) alive order k) where
     -- all were struck
-    pub peeled-once : n ≤ k → Peeled one n alive order k
+    pub peeled-once : n ≤ k → Peeled one n alive k
     peeled-once l =
         record {
           remnant = record {
@@ -612,14 +611,13 @@ module _ (from to : List ℕ) (len n : ℕ) (limits : Limits from to [] len n) w
             left = λ v b a. absurd (omega (arith, a, counted, total-least n alive v b));
           };
           counted = counted;
-          low = first .row .low;
         }
       where
         counted : k + total n alive ≡ n
         counted = omega (arith, first .size, struck-total (NotEntered one) n (replicate 256 1) (first .struck) alive (first .strikes), total-all n (limits .few-transitions))
 
     -- and those that none leaves
-    pub peeled-twice : (alive′ order′ : List ℕ) (k′ : ℕ) → Stripped two n alive alive′ order′ k′ → Peeled one n alive′ order (k + k′)
+    pub peeled-twice : (alive′ order′ : List ℕ) (k′ : ℕ) → Stripped two n alive alive′ order′ k′ → Peeled one n alive′ (k + k′)
     peeled-twice alive′ order′ k′ second =
         record {
           remnant = record {
@@ -638,5 +636,4 @@ module _ (from to : List ℕ) (len n : ℕ) (limits : Limits from to [] len n) w
             struck-total (NotEntered two) n alive (second .struck) alive′ (second .strikes),
             total-all n (limits .few-transitions),
           );
-          low = first .row .low;
         }

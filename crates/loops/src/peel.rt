@@ -10,11 +10,9 @@ ghost use Rattle.loops.specs.Listed.{plain};
 ghost use Rattle.loops.specs.Linked.{Linked, Row};
 ghost use Rattle.loops.specs.Peeling.{Tallied, Waiting, Lessened, Spread, StruckNext, Stripped, Peeled};
 
-// The transitions that remain (1) and those struck (0), and how many were struck. `order` holds those struck because no remaining rule entered them,
-// first to last: every rule between two of them comes source first.
+// The transitions that remain (1) and those struck (0), and how many were struck.
 pub struct Remnant {
     pub alive: [u8; 256],
-    pub order: [u16; 256],
     pub count: usize,
 }
 
@@ -208,7 +206,7 @@ fn strike_unentered(
 // Peels the rules from source[r] to target[r], r below len. What none leaves is what none enters when the rules are turned round.
 pub fn peel(source: &[u16; 2048], target: &[u16; 2048], len: usize, n: usize) -> Remnant
     requires { ⌜ Limits (now source) (now target) [] len n ⌝ }
-    ensures { λ r. ⌜ Peeled (plain (now (source .entry)) (now (target .entry)) len) n (r .alive) (r .order) (r .count) ⌝ }
+    ensures { λ r. ⌜ Peeled (plain (now (source .entry)) (now (target .entry)) len) n (r .alive) (r .count) ⌝ }
 {
     let mut alive = [1u8; 256];
     let mut order = [0u16; 256];
@@ -216,7 +214,6 @@ pub fn peel(source: &[u16; 2048], target: &[u16; 2048], len: usize, n: usize) ->
     if n <= first {
         return Remnant {
             alive: alive,
-            order: order,
             count: first,
         };
     }
@@ -224,7 +221,6 @@ pub fn peel(source: &[u16; 2048], target: &[u16; 2048], len: usize, n: usize) ->
     let second = strike_unentered(target, source, len, n, &mut alive, &mut others);
     Remnant {
         alive: alive,
-        order: order,
         count: first + second,
     }
 }

@@ -73,7 +73,7 @@ const TARGET_OUT: &str = "n 2: 0>2/1/5";
 
 /// Name, table, call. A table within the limits is also handed in as its file, but for writing.
 #[rustfmt::skip] // One case a line.
-pub const TABLES: [(&str, &str, &str); 89] = [
+pub const TABLES: [(&str, &str, &str); 90] = [
     ("worked P1", P1, "analyse 3 3 3"),
     ("worked P1, three occurrences", P1, "simulate 3 7"),
     ("worked P2", "n 2: 0>1/0/3, 1>0/2/4", "analyse 3 3 3"),

@@ -24,7 +24,7 @@ returns-2 : tie.Need-returns-2
 returns-2 c =
     let s = c .before .before .before in
     let a = s .args in
-    found-peeled (a .source .now) (a .target .now) (a .list .now) (a .len) (a .n) _ _ _ _ (s .pre) (c .before .before .peel .ensures) (omega arith)
+    found-peeled (a .source .now) (a .target .now) (a .list .now) (a .len) (a .n) _ _ _ (s .pre) (c .before .before .peel .ensures) (omega arith)
 
 pub first-loop-spec : {M : Type 1} → statement M
 first-loop-spec = tie.close (tie.spec peel-requires seek-loop-requires returns returns-2)

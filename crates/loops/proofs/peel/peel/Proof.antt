@@ -22,8 +22,8 @@ strike-unentered-requires-2 c κs =
     let a = s .args in
     (limits-back (a .source .now) (a .target .now) (a .len) (a .n) (s .pre), row-none _ (s .pre .some-transition))
 
-add-t19 : tie.Need-add-t19
-add-t19 c =
+add-t17 : tie.Need-add-t17
+add-t17 c =
     let s = c .before .before .before .before .before .before .before in
     let a = s .args in
     omega (arith, s .pre .few-transitions, peeled-twice (a .source .now) (a .target .now) (a .len) (a .n) (s .pre) _ _ _ (c .before .before .before .before .strike-unentered .ensures) _ _ _ (c .strike-unentered2 .ensures) .counted)
@@ -37,4 +37,4 @@ returns-2 c =
 pub peel-spec : {M : Type 1} → statement M
 peel-spec =
     tie.close
-    (tie.spec strike-unentered-requires returns strike-unentered-requires-2 add-t19 returns-2)
+    (tie.spec strike-unentered-requires returns strike-unentered-requires-2 add-t17 returns-2)
