@@ -1,4 +1,4 @@
--- The engine's columns: a checked table as four arrays of numbers, by the rule's number.
+-- A checked table as columns: arrays of numbers, by the rule's number; two of them for its least and greatest delays.
 --
 --   shape source target offset m    == the shape that the columns say
 --   delayAt delay r                 == the delay of rule r

@@ -3,7 +3,7 @@
 --   pick t a b              a where the test t holds, b where it does not
 --   followed b x            what a byte b, whose top bit is set, comes to before x
 --   rawOf g s               the number at the front of the bytes s, of at most g groups: Cut, Long, or Value with its value and its size in bytes
---   cutPlace, longPlace     where refusals 1 and 2 of such a number are placed; marked k s: how many bytes with a top bit set come first
+--   cutPlace, longPlace     where refusals 1 and 2 of such a number are placed; marked k s: how many of the first k bytes have their top bit set, before one has not
 --   Answer                  what reading a number hands back
 --   refused number at       a refusal; accepted value rest: an acceptance
 --   limited g s low high x  the answer, where x is what stands at the front of s
