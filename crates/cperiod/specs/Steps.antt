@@ -28,8 +28,9 @@ use Rattle.table.specs.declared.Rule.{Rule}
 use Rattle.table.specs.declared.Table.{Table}
 use Rattle.sevens.specs.Sevens.{Answer, numberOf}
 use Rattle.period.specs.declared.Analysis.{Analysis}
-use Rattle.period.specs.declared.Rated.{Rated}
-use Rattle.period.specs.Promise.{pick, outcome, refusedAnalysis, AnalysisOf, refusedRate, RateOf}
+use Rattle.engine.specs.declared.Rated.{Rated}
+use Rattle.engine.specs.Rate.{refusedRate, RateOf}
+use Rattle.period.specs.Promise.{pick, outcome, refusedAnalysis, AnalysisOf}
 use Rattle.rulefile.specs.declared.FileRead.{FileRead}
 use Rattle.rulefile.specs.declared.Written.{Written}
 use Rattle.rulefile.specs.File.{readOf, refusedWrite, writtenAs, Writes}

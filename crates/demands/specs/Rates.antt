@@ -29,9 +29,8 @@ use Rattle.table.specs.Limits.{maxOffset, maxDelay}
 use Rattle.table.specs.Form.{unusedRule}
 use Rattle.table.specs.Fields.{Within, within-not-bad}
 use Rattle.table.specs.Meaning.{used, delayOf, shapeOf, rangesOf, within-fits, within-offsets, within-delays}
-use Rattle.engine.specs.Rate.{RateVerdict, bad-field, no-name, knot-at, unreached, too-wide, rated, JudgesRate, rate-never-wide, rate-verdict-exists, rate-verdict-unique}
-use Rattle.period.specs.declared.Rated.{Rated}
-use Rattle.period.specs.Promise.{refusedRate, answeredRate, ratedOf, RateOf}
+use Rattle.engine.specs.Rate.{RateVerdict, bad-field, no-name, knot-at, unreached, too-wide, rated, JudgesRate, rate-never-wide, rate-verdict-exists, rate-verdict-unique, refusedRate, answeredRate, ratedOf, RateOf}
+use Rattle.engine.specs.declared.Rated.{Rated}
 use Rattle.demands.specs.Filled.{Filled, EndsInward, ends-inward, bad-filled, within-filled, shape-filled, narrows-filled}
 
 -- ------------------------------------------------------------------------------------------------------------------------------- refused exactly when

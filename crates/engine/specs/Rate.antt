@@ -4,11 +4,11 @@
 --                              a sum is too wide; or the range of its rate
 --   WideRate S K a          == a sum is too wide: with every delay at its least at the low end, or at its greatest at the high end
 --   JudgesRate t v x        == x is the verdict on the rate of transition v of the table t
---   refusedRating f p       == refused with number f at place p: all else 0
---   ratingOf n x            == what is handed back for the verdict x, where n is the table's: numbers of refusal are the paper's
---   RatingOf t v r          == THE PROMISE of `rate`
+--   refusedRate f p       == refused with number f at place p: all else 0
+--   ratedOf n x            == what is handed back for the verdict x, where n is the table's: numbers of refusal are the paper's
+--   RateOf t v r          == THE PROMISE of `rate`
 --
--- Theorems: rate-never-wide (refusal 11 never comes), rate-verdict-exists, rate-verdict-unique, rating-unique (one outcome).
+-- Theorems: rate-never-wide (refusal 11 never comes), rate-verdict-exists, rate-verdict-unique, rate-unique (one outcome).
 use mathlib.Core.Path.{_≡_, refl, sym, ap, _∙_, subst}
 use mathlib.Core.Bool.{Bool, true, false}
 use mathlib.Core.Logic.{_≢_, _⊎_, inl, inr, ⊎-elim, by-cases}
@@ -39,7 +39,7 @@ use Rattle.table.specs.Limits.{maxOffset, maxDelay}
 use Rattle.table.specs.Form.{unusedRule}
 use Rattle.table.specs.Fields.{Within, FirstBad, within-or-first-bad, within-not-bad, first-bad-unique}
 use Rattle.table.specs.Meaning.{used, delayOf, shapeOf, rangesOf, within-fits, within-offsets, within-delays}
-use Rattle.engine.specs.declared.Rating.{Rating}
+use Rattle.engine.specs.declared.Rated.{Rated}
 use Rattle.columns.specs.Columns.{shape}
 use Rattle.loops.specs.Found.{FoundFirst}
 use Rattle.columns.specs.Lay.{Laid, laid-shape, laid-least, laid-greatest}
@@ -66,24 +66,24 @@ JudgesRate t v unreached = Within t × (v < t .n) × Live (shapeOf t) × NoLoopT
 JudgesRate t v too-wide = Within t × (v < t .n) × Live (shapeOf t) × ((a : RateRange) × Rates (shapeOf t) (rangesOf t) v a × WideRate (shapeOf t) (rangesOf t) a)
 JudgesRate t v (rated a) = Within t × (v < t .n) × Live (shapeOf t) × Rates (shapeOf t) (rangesOf t) v a × (¬ (WideRate (shapeOf t) (rangesOf t) a))
 
-abbrev pub refusedRating : ℕ → ℕ → Rating
-refusedRating f p = record { refusal = f; place = p; exact = false; low = record { p = 0; q = 0 }; high = record { p = 0; q = 0 } }
+abbrev pub refusedRate : ℕ → ℕ → Rated
+refusedRate f p = record { refusal = f; place = p; exact = false; low = record { p = 0; q = 0 }; high = record { p = 0; q = 0 } }
 
-abbrev pub ratedRating : RateRange → Rating
-ratedRating a = record { refusal = 0; place = 0; exact = a .exact; low = record { p = a .lowP; q = a .lowQ }; high = record { p = a .highP; q = a .highQ } }
+abbrev pub answeredRate : RateRange → Rated
+answeredRate a = record { refusal = 0; place = 0; exact = a .exact; low = record { p = a .lowP; q = a .lowQ }; high = record { p = a .highP; q = a .highQ } }
 
-abbrev pub ratingOf : ℕ → RateVerdict → Rating
-ratingOf n (bad-field k) = refusedRating 3 k
-ratingOf n no-name = refusedRating 10 n
-ratingOf n (knot-at u) = refusedRating 5 u
-ratingOf n unreached = refusedRating 6 0
-ratingOf n too-wide = refusedRating 11 0
-ratingOf n (rated a) = ratedRating a
+abbrev pub ratedOf : ℕ → RateVerdict → Rated
+ratedOf n (bad-field k) = refusedRate 3 k
+ratedOf n no-name = refusedRate 10 n
+ratedOf n (knot-at u) = refusedRate 5 u
+ratedOf n unreached = refusedRate 6 0
+ratedOf n too-wide = refusedRate 11 0
+ratedOf n (rated a) = answeredRate a
 
-pub record RatingOf (t : Table) (v : ℕ) (r : Rating) : Type 0 where
+pub record RateOf (t : Table) (v : ℕ) (r : Rated) : Type 0 where
   pub verdict : RateVerdict
   pub judged : JudgesRate t v verdict
-  pub result : r ≡ ratingOf (t .n) verdict
+  pub result : r ≡ ratedOf (t .n) verdict
 
 -- ------------------------------------------------------------------------------------------------------------------------- one verdict, and there
 
@@ -168,16 +168,16 @@ rate-verdict-unique t v (rated x) too-wide a b = absurd (rate-never-wide t (b .0
 rate-verdict-unique t v (rated x) (rated y) a b = ap rated (rates-unique (shapeOf t) (t .n) (within-fits t (a .0)) v (rangesOf t) x y (a .3) (b .3))
 
 -- ONLY ONE OUTCOME
-pub rating-unique : (t : Table) (v : ℕ) (r s : Rating) → RatingOf t v r → RatingOf t v s → r ≡ s
-rating-unique t v r s a b = a .result ∙ ap (ratingOf (t .n)) (rate-verdict-unique t v (a .verdict) (b .verdict) (a .judged) (b .judged)) ∙ sym (b .result)
+pub rate-unique : (t : Table) (v : ℕ) (r s : Rated) → RateOf t v r → RateOf t v s → r ≡ s
+rate-unique t v r s a b = a .result ∙ ap (ratedOf (t .n)) (rate-verdict-unique t v (a .verdict) (b .verdict) (a .judged) (b .judged)) ∙ sym (b .result)
 
 -- ---------------------------------------------------------------------------------------------------------------------------- how the code ends
 
-pub rating-outside : (t : Table) (v f k : ℕ) (r : Rating) → FirstBad t k × (f ≡ 3) → r ≡ refusedRating f k → RatingOf t v r
-rating-outside t v f k r b e = record { verdict = bad-field k; judged = b .0; result = e ∙ ap (λ x. refusedRating x k) (b .1) }
+pub rate-outside : (t : Table) (v f k : ℕ) (r : Rated) → FirstBad t k × (f ≡ 3) → r ≡ refusedRate f k → RateOf t v r
+rate-outside t v f k r b e = record { verdict = bad-field k; judged = b .0; result = e ∙ ap (λ x. refusedRate x k) (b .1) }
 
-pub rating-unnamed : (t : Table) → Within t → (v : ℕ) (r : Rating) → t .n ≤ v → r ≡ refusedRating 10 (t .n) → RatingOf t v r
-rating-unnamed t w v r b e = record { verdict = no-name; judged = (w, b); result = e }
+pub rate-unnamed : (t : Table) → Within t → (v : ℕ) (r : Rated) → t .n ≤ v → r ≡ refusedRate 10 (t .n) → RateOf t v r
+rate-unnamed t w v r b e = record { verdict = no-name; judged = (w, b); result = e }
 
 -- one side: no loop, or the period in lowest terms
 pub record Paced (S : Shape) (D : ℕ → ℕ) (found : Bool) (p q : ℕ) : Type 0 where
@@ -186,16 +186,16 @@ pub record Paced (S : Shape) (D : ℕ → ℕ) (found : Bool) (p q : ℕ) : Type
   pub lowest : found ≡ true → Lowest p q
 
 -- two sides put together
-pub record MetRating (p q P Q : ℕ) (r : Rating) : Type 0 where
+pub record MetRate (p q P Q : ℕ) (r : Rated) : Type 0 where
   pub exact : Bool
   pub meets : Meets p q P Q exact
-  pub result : r ≡ ratedRating (record { lowP = p; lowQ = q; highP = P; highQ = Q; exact = exact })
+  pub result : r ≡ answeredRate (record { lowP = p; lowQ = q; highP = P; highQ = Q; exact = exact })
 
 -- both sides: refused 6 where there is no loop, else the two ends
-abbrev pub RatedIn : Shape → Ranges → Rating → Type 0
+abbrev pub RatedIn : Shape → Ranges → Rated → Type 0
 RatedIn S K r =
-    (NoLoop S × (r ≡ refusedRating 6 0))
-    ⊎ ((a : RateRange) × LowEnd S K (a .lowP) (a .lowQ) × HighEnd S K (a .highP) (a .highQ) × ExactRate a × (r ≡ ratedRating a))
+    (NoLoop S × (r ≡ refusedRate 6 0))
+    ⊎ ((a : RateRange) × LowEnd S K (a .lowP) (a .lowQ) × HighEnd S K (a .highP) (a .highQ) × ExactRate a × (r ≡ answeredRate a))
 
 module _ (S : Shape) (D : ℕ → ℕ) (P Q : ℕ) (X : List ℕ) (live : Live S) (c : Reached S D P Q X) where
   paced : SomeLoop S → Paced S D true P Q
@@ -219,18 +219,18 @@ met-exact : (p q P Q : ℕ) (e : Bool) → Meets p q P Q e → ExactRate (record
 met-exact p q P Q true m = inl (m .0 refl .0, m .0 refl .1, refl)
 met-exact p q P Q false m = inr (m .1 refl, refl)
 
-pub ends-none : (S : Shape) (K : Ranges) (p q : ℕ) (r : Rating) (f : Bool) → Paced S K.least f p q → f ≡ false → r ≡ refusedRating 6 0 → RatedIn S K r
+pub ends-none : (S : Shape) (K : Ranges) (p q : ℕ) (r : Rated) (f : Bool) → Paced S K.least f p q → f ≡ false → r ≡ refusedRate 6 0 → RatedIn S K r
 ends-none S K p q r f x z e = inl (x .none z, e)
 
-pub ends-met : (S : Shape) (K : Ranges) → Proper S K → (p q P Q : ℕ) (f g : Bool) (r : Rating) → Paced S K.least f p q → f ≡ true → Paced S K.greatest g P Q → MetRating p q P Q r → RatedIn S K r
+pub ends-met : (S : Shape) (K : Ranges) → Proper S K → (p q P Q : ℕ) (f g : Bool) (r : Rated) → Paced S K.least f p q → f ≡ true → Paced S K.greatest g P Q → MetRate p q P Q r → RatedIn S K r
 ends-met S K proper p q P Q f true r x z y m =
     inr (record { lowP = p; lowQ = q; highP = P; highQ = Q; exact = m .exact }, low-is S K proper p q (x .period z) (x .lowest z), high-is S K proper P Q (y .period refl) (y .lowest refl), met-exact p q P Q (m .exact) (m .meets), m .result)
 ends-met S K proper p q P Q f false r x z y m = let l = x .period z in absurd (y .none refl (l .at) (l .loop) (l .is-loop))
 
 module _ (t : Table) (w : Within t) (v : ℕ) (b : v < t .n) (s g o l h : List ℕ) (k : Bool) (c : Laid t (t .m) s g o l h k)
     (len at : ℕ) (rules : List ℕ) (zero : FoundFirst (shape s g o (t .m)) (λ i. getD o i 0 ≡ 0) (t .n) len at rules) where
-  pub rating-knotted : (r : Rating) → 0 < len → r ≡ refusedRating 5 at → RatingOf t v r
-  rating-knotted r some e =
+  pub rate-knotted : (r : Rated) → 0 < len → r ≡ refusedRate 5 at → RateOf t v r
+  rate-knotted r some e =
       record { verdict = knot-at at; judged = (w, b, subst (λ (S : Shape). Knot S at) (laid-shape t s g o l h k c) (first-knot (shape s g o (t .m)) at (take len rules) (zero .some some))); result = e }
 
   -- THE ENDS OF THE STEERED RULES ARE THE RATE'S
@@ -241,13 +241,13 @@ module _ (t : Table) (w : Within t) (v : ℕ) (b : v < t .n) (s g o l h : List �
     pub live-toward : Live (shape f g o (t .m))
     live-toward = live-steered (shape s g o (t .m)) v (λ r. getD f r 0) steers live
 
-    flat : (r : Rating) → NoLoop (shape f g o (t .m)) → r ≡ refusedRating 6 0 → RatingOf t v r
+    flat : (r : Rated) → NoLoop (shape f g o (t .m)) → r ≡ refusedRate 6 0 → RateOf t v r
     flat r no-loop e =
         let z = subst (λ (S : Shape). Live S × NoLoopTo S v) (laid-shape t s g o l h k c) (live, none-plain (shape s g o (t .m)) v (λ r. getD f r 0) steers no-loop) in
         record { verdict = unreached; judged = (w, b, z .0, z .1); result = e }
 
-    found : (r : Rating) (a : RateRange) → LowEnd (shape f g o (t .m)) (rangesIn l h) (a .lowP) (a .lowQ) → HighEnd (shape f g o (t .m)) (rangesIn l h) (a .highP) (a .highQ) → ExactRate a → r ≡ ratedRating a
-        → RatingOf t v r
+    found : (r : Rated) (a : RateRange) → LowEnd (shape f g o (t .m)) (rangesIn l h) (a .lowP) (a .lowQ) → HighEnd (shape f g o (t .m)) (rangesIn l h) (a .highP) (a .highQ) → ExactRate a → r ≡ answeredRate a
+        → RateOf t v r
     found r a low high meet e =
         let S = shape s g o (t .m) in
         let y : Rates (shape s g o (t .m)) (rangesOf t) v a =
@@ -259,6 +259,6 @@ module _ (t : Table) (w : Within t) (v : ℕ) (b : v < t .n) (s g o l h : List �
         let z = subst (λ (S : Shape). Live S × Rates S (rangesOf t) v a) (laid-shape t s g o l h k c) (live, y) in
         record { verdict = rated a; judged = (w, b, z .0, z .1, rate-never-wide t w v b a (z .1)); result = e }
 
-    pub rating-ends : (r : Rating) → RatedIn (shape f g o (t .m)) (rangesIn l h) r → RatingOf t v r
-    rating-ends r (inl x) = flat r (x .0) (x .1)
-    rating-ends r (inr x) = found r (x .0) (x .1) (x .2) (x .3) (x .4)
+    pub rate-ends : (r : Rated) → RatedIn (shape f g o (t .m)) (rangesIn l h) r → RateOf t v r
+    rate-ends r (inl x) = flat r (x .0) (x .1)
+    rate-ends r (inr x) = found r (x .0) (x .1) (x .2) (x .3) (x .4)

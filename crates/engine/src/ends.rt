@@ -3,18 +3,18 @@ ghost use mathlib.Core.Path.{_≡_};
 ghost use Rattle.model.specs.Loop.{Live};
 ghost use Rattle.columns.specs.Columns.{shape, delayAt, Limits, Short, Ordered};
 ghost use Rattle.engine.specs.Lap.{rangesIn};
-ghost use Rattle.engine.specs.Rate.{refusedRating, Paced, MetRating, RatedIn};
-use crate::Rating;
+ghost use Rattle.engine.specs.Rate.{refusedRate, Paced, MetRate, RatedIn};
+use crate::Rated;
 use crate::Ratio;
 use crate::laps;
 
 const FLAT: u32 = 6;
 
-pub fn unrated(refusal: u32, place: usize) -> Rating
-    ensures { λ r. ⌜ r ≡ refusedRating refusal place ⌝ }
+pub fn unrated(refusal: u32, place: usize) -> Rated
+    ensures { λ r. ⌜ r ≡ refusedRate refusal place ⌝ }
 {
     let none = Ratio { p: 0, q: 0 };
-    Rating {
+    Rated {
         refusal: refusal,
         place: place,
         exact: false,
@@ -68,8 +68,8 @@ fn one_end(
     }
 }
 
-fn met(low: Pace, high: Pace) -> Rating
-    ensures { λ r. ⌜ MetRating (low .p) (low .q) (high .p) (high .q) r ⌝ }
+fn met(low: Pace, high: Pace) -> Rated
+    ensures { λ r. ⌜ MetRate (low .p) (low .q) (high .p) (high .q) r ⌝ }
 {
     let exact = laps::meet(low.p, low.q, high.p, high.q);
     let below = Ratio { p: low.p, q: low.q };
@@ -77,7 +77,7 @@ fn met(low: Pace, high: Pace) -> Rating
         p: high.p,
         q: high.q,
     };
-    Rating {
+    Rated {
         refusal: 0,
         place: 0,
         exact: exact,
@@ -96,7 +96,7 @@ pub fn ends(
     blank: bool,
     m: usize,
     n: usize,
-) -> Rating
+) -> Rated
     requires { ⌜ (Limits (now source) (now target) (now offset) m n) × (Ordered (now least) (now greatest) m blank) × (Live (shape (now source) (now target) (now offset) m)) ⌝ }
     ensures { λ r. ⌜ RatedIn (shape (now (source .entry)) (now (target .entry)) (now (offset .entry)) m) (rangesIn (now (least .entry)) (now (greatest .entry))) r ⌝ }
 {

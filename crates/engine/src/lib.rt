@@ -4,7 +4,7 @@ mod laps;
 mod reach;
 
 ghost use Rattle.engine.specs.Lap.{LapOf};
-ghost use Rattle.engine.specs.Rate.{RatingOf};
+ghost use Rattle.engine.specs.Rate.{RateOf};
 ghost use Rattle.engine.specs.Turn.{TurnOf};
 use table::Table;
 
@@ -59,7 +59,7 @@ pub struct Ratio {
 }
 
 // Refused: number and place, and all else 0. Else the two ends of a transition's rate, and whether they meet.
-pub struct Rating {
+pub struct Rated {
     pub refusal: u32,
     pub place: usize,
     pub exact: bool,
@@ -70,8 +70,8 @@ pub struct Rating {
 const NAME: u32 = 10;
 
 // The rate of transition v: the two ends of the same rules, steered so that only the loops that reach v are left; or refused 3, 10, 5, 6 or 11, in this order.
-pub fn rate(t: Table, v: usize) -> Rating
-    ensures { λ r. ⌜ RatingOf t v r ⌝ }
+pub fn rate(t: Table, v: usize) -> Rated
+    ensures { λ r. ⌜ RateOf t v r ⌝ }
 {
     let checked = table::check(t);
     if 0 < checked.refusal {

@@ -1,14 +1,12 @@
--- What `analyse` and `rate` hand back for the verdict on a table, and leave in the lent buffers: one definition by cases, in the paper's order.
+-- What `analyse` hands back for the verdict on a table, and leaves in the lent buffers: one definition by cases, in the paper's order.
 --
 --   Outcome                  == what analysis hands back, with the final contents of the three buffers
 --   refusedAnalysis f p      == refused with number f at place p: all else 0
 --   answeredAnalysis a       == the answer a
 --   outcomeOf n v x l h      == the outcome for the verdict v, with n transitions and buffers x, l, h lent: 3, then 8, then 5, 6, 11
 --   AnalysisOf t x l h o     == THE PROMISE of `analyse`
---   refusedRate f p, answeredRate a, ratedOf n x        the same for the verdict x on a transition's rate: 3, then 10, then 5, 6, 11
---   RateOf t v r             == THE PROMISE of `rate`, of transition v
 --
--- Theorems: analysis-unique, rate-unique (one outcome each).
+-- Theorem: analysis-unique (one outcome). The promise of `rate` is the engine's, `RateOf`.
 use mathlib.Core.Path.{_≡_, refl, sym, ap, _∙_}
 use mathlib.Core.Bool.{Bool, true, false}
 use mathlib.Core.List.{List, [], _∷_, _++_}
@@ -16,14 +14,10 @@ use Prim.Native.Nat.{ℕ, zero, suc, _+_, _-_, _≤_, _<_}
 use lib.Dec.{ltb}
 use lib.ListN.{length, drop}
 use Rattle.model.specs.Answer.{Answer}
-use Rattle.model.specs.Rate.{RateRange}
 use Rattle.table.specs.declared.Table.{Table}
 use Rattle.engine.specs.Verdict.{Verdict, outside, knotted, flat, wide, found, Judges, verdict-unique}
-use Rattle.engine.specs.Rate.{RateVerdict, bad-field, no-name, knot-at, unreached, too-wide, rated, JudgesRate, rate-verdict-unique}
-use Rattle.period.specs.declared.Ratio.{Ratio}
 use Rattle.period.specs.declared.End.{End}
 use Rattle.period.specs.declared.Analysis.{Analysis}
-use Rattle.period.specs.declared.Rated.{Rated}
 
 abbrev pub pick : {A : Type 0} → Bool → A → A → A
 pick true a b = a
@@ -89,28 +83,3 @@ pub record AnalysisOf (t : Table) (x l h : List ℕ) (o : Outcome) : Type 0 wher
 pub analysis-unique : (t : Table) (x l h : List ℕ) (o o′ : Outcome) → AnalysisOf t x l h o → AnalysisOf t x l h o′ → o ≡ o′
 analysis-unique t x l h o o′ a b =
     a .result ∙ ap (λ v. outcomeOf (t .n) v x l h) (verdict-unique t (a .verdict) (b .verdict) (a .judged) (b .judged)) ∙ sym (b .result)
-
--- ---------------------------------------------------------------------------------------------------------------------------------------- rate
-
-abbrev pub refusedRate : ℕ → ℕ → Rated
-refusedRate f p = record { refusal = f; place = p; exact = false; low = record { p = 0; q = 0 }; high = record { p = 0; q = 0 } }
-
-abbrev pub answeredRate : RateRange → Rated
-answeredRate a = record { refusal = 0; place = 0; exact = a .exact; low = record { p = a .lowP; q = a .lowQ }; high = record { p = a .highP; q = a .highQ } }
-
-abbrev pub ratedOf : ℕ → RateVerdict → Rated
-ratedOf n (bad-field k) = refusedRate 3 k
-ratedOf n no-name = refusedRate 10 n
-ratedOf n (knot-at u) = refusedRate 5 u
-ratedOf n unreached = refusedRate 6 0
-ratedOf n too-wide = refusedRate 11 0
-ratedOf n (rated a) = answeredRate a
-
-pub record RateOf (t : Table) (v : ℕ) (r : Rated) : Type 0 where
-  pub verdict : RateVerdict
-  pub judged : JudgesRate t v verdict
-  pub result : r ≡ ratedOf (t .n) verdict
-
--- ONLY ONE OUTCOME
-pub rate-unique : (t : Table) (v : ℕ) (r s : Rated) → RateOf t v r → RateOf t v s → r ≡ s
-rate-unique t v r s a b = a .result ∙ ap (ratedOf (t .n)) (rate-verdict-unique t v (a .verdict) (b .verdict) (a .judged) (b .judged)) ∙ sym (b .result)

@@ -1,7 +1,7 @@
--- Steps of the proofs of `analyse` and `rate`.
+-- Steps of the proof of `analyse`.
 --
 --   put-next                     one value more is put into a buffer
---   analysed-..., rate-made      what each way out of the calls hands back is what the promise says
+--   analysed-...                 what each way out of the call hands back is what the promise says
 use mathlib.Core.Path.{_≡_, refl, sym, ap, _∙_, subst}
 use mathlib.Core.Bool.{Bool, true, false}
 use mathlib.Core.Logic.{_≢_}
@@ -19,13 +19,10 @@ use Rattle.table.specs.declared.Table.{Table}
 use Rattle.table.specs.Fields.{Within}
 use Rattle.table.specs.Meaning.{shapeOf, within-fits}
 use Rattle.engine.specs.declared.Lap.{Lap}
-use Rattle.engine.specs.declared.Rating.{Rating}
 use Rattle.engine.specs.Verdict.{Verdict, outside, knotted, flat, wide, found, Judges}
 use Rattle.engine.specs.Lap.{LapOf, lapOf}
-use Rattle.engine.specs.Rate.{RateVerdict, bad-field, no-name, knot-at, unreached, too-wide, rated, ratingOf, RatingOf}
 use Rattle.period.specs.declared.Analysis.{Analysis}
-use Rattle.period.specs.declared.Rated.{Rated}
-use Rattle.period.specs.Promise.{pick, Outcome, outcome, endOf, refusedAnalysis, answeredAnalysis, into, judgedOutcome, roomFor, isOutside, outcomeOf, AnalysisOf, ratedOf, RateOf}
+use Rattle.period.specs.Promise.{pick, Outcome, outcome, endOf, refusedAnalysis, answeredAnalysis, into, judgedOutcome, roomFor, isOutside, outcomeOf, AnalysisOf}
 
 put-one : (i : ℕ) (x out : List ℕ) → i < length x → i < length out → set (take i x ++ drop i out) i (getD x i 0) ≡ take (suc i) x ++ drop (suc i) out
 put-one zero [] out b c = absurd (omega arith)
@@ -176,19 +173,3 @@ module _ (t : Table) (lap : Lap) (is : LapOf t lap) where
   lap-short =
       let s = judged-short t (is .verdict) (is .judged) in
       (omega (arith, ap (λ (l : Lap). l .low .len) (is .result)), omega (arith, ap (λ (l : Lap). l .high .len) (is .result)))
-
--- what the code makes of the engine's rating
-abbrev pub madeRate : Rating → Rated
-madeRate x =
-    record { refusal = x .refusal; place = x .place; exact = x .exact; low = record { p = x .low .p; q = x .low .q }; high = record { p = x .high .p; q = x .high .q } }
-
-made-rate : (n : ℕ) (x : RateVerdict) → madeRate (ratingOf n x) ≡ ratedOf n x
-made-rate n (bad-field k) = refl
-made-rate n no-name = refl
-made-rate n (knot-at u) = refl
-made-rate n unreached = refl
-made-rate n too-wide = refl
-made-rate n (rated a) = refl
-
-pub rate-made : (t : Table) (v : ℕ) (x : Rating) → RatingOf t v x → RateOf t v (madeRate x)
-rate-made t v x is = record { verdict = is .verdict; judged = is .judged; result = ap madeRate (is .result) ∙ made-rate (t .n) (is .verdict) }

@@ -3,14 +3,10 @@ ghost use mathlib.Core.Path.{_≡_};
 ghost use mathlib.Core.List.{_++_};
 ghost use Prim.Native.Nat.{ℕ, _≤_};
 ghost use lib.ListN.{length, take, drop};
-ghost use Rattle.period.specs.Promise.{outcome, refusedAnalysis, AnalysisOf, RateOf};
+ghost use Rattle.engine.specs.Rate.{RateOf};
+ghost use Rattle.period.specs.Promise.{outcome, refusedAnalysis, AnalysisOf};
+use engine::Rated;
 use table::Table;
-
-// A ratio in lowest terms.
-pub struct Ratio {
-    pub p: u64,
-    pub q: u64,
-}
 
 // One end: its ratio in lowest terms, and the length of its loop.
 pub struct End {
@@ -26,15 +22,6 @@ pub struct Analysis {
     pub exact: bool,
     pub low: End,
     pub high: End,
-}
-
-// Refused: number and place, and all else 0.
-pub struct Rated {
-    pub refusal: u32,
-    pub place: usize,
-    pub exact: bool,
-    pub low: Ratio,
-    pub high: Ratio,
 }
 
 const RANGE: u32 = 3;
@@ -130,22 +117,5 @@ pub fn analyse(t: Table, schedule: &mut [u64], low: &mut [u32], high: &mut [u32]
 pub fn rate(t: Table, v: usize) -> Rated
     ensures { λ r. ⌜ RateOf t v r ⌝ }
 {
-    let rating = engine::rate(t, v);
-    let least = rating.low;
-    let greatest = rating.high;
-    let low = Ratio {
-        p: least.p,
-        q: least.q,
-    };
-    let high = Ratio {
-        p: greatest.p,
-        q: greatest.q,
-    };
-    Rated {
-        refusal: rating.refusal,
-        place: rating.place,
-        exact: rating.exact,
-        low: low,
-        high: high,
-    }
+    engine::rate(t, v)
 }

@@ -30,8 +30,8 @@ use Rattle.rulefile.specs.declared.FileRead.{FileRead}
 use Rattle.rulefile.specs.File.{readOf}
 use Rattle.rulefile.specs.Length.{longest}
 use Rattle.rulefile.specs.First.{first-bytes}
-use Rattle.period.specs.declared.Rated.{Rated}
-use Rattle.period.specs.Promise.{refusedRate, RateOf, rate-unique}
+use Rattle.engine.specs.declared.Rated.{Rated}
+use Rattle.engine.specs.Rate.{refusedRate, RateOf, rate-unique}
 use Rattle.text.specs.declared.Text.{Text}
 use Rattle.text.specs.declared.Listing.{Listing}
 use Rattle.text.specs.Decimal.{ascii, pick, decimal, numbers, numbers-append}

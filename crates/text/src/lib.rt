@@ -8,13 +8,13 @@ ghost use mathlib.Core.Path.{_≡_};
 ghost use mathlib.Core.List.{[]};
 ghost use Prim.Native.Nat.{ℕ, _<_};
 ghost use lib.ListN.{length, getD};
-ghost use Rattle.period.specs.Promise.{refusedRate, RateOf};
+ghost use Rattle.engine.specs.Rate.{refusedRate, RateOf};
 ghost use Rattle.text.specs.Text.{refusedLine, Holds, ReportOf};
 ghost use Rattle.text.specs.Made.{TableReport};
 ghost use Rattle.text.specs.Pair.{PairOf};
 ghost use Rattle.text.specs.Rates.{rateLine, groupLine, FileRate, RateReport, noRate, ListingOf, GroupOf, moreTold, told};
-use period::Rated;
-use period::Ratio;
+use engine::Rated;
+use engine::Ratio;
 use table::Table;
 
 // A text: its length and its bytes, zeros after them. No text takes all the room.

@@ -7,9 +7,9 @@ ghost use Rattle.text.specs.Puts.{Puts};
 ghost use Rattle.text.specs.Rates.{refusedWords, exactWords, rangeWords, rateWords, alikeRates, earlierThan, memberIf, membersTo};
 use crate::lines;
 use crate::put;
+use engine::Rated;
+use engine::Ratio;
 use period::End;
-use period::Rated;
-use period::Ratio;
 
 fn refused_words(refusal: u32, place: usize, out: &mut [u8], at: usize) -> usize
     ensures { λ r. ⌜ Puts (refusedWords refusal place) (now (out .entry)) at (now (out .exit)) r × (r ≤ at + 96) ⌝ }

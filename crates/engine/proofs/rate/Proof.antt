@@ -1,9 +1,9 @@
--- `rate` meets its contract: the ends of the steered rules are the rate's (`rating-ends`).
+-- `rate` meets its contract: the ends of the steered rules are the rate's (`rate-ends`).
 -- Assumes nothing.
 use native.Mathlib.Omega.{arith}
 use Rattle.columns.specs.Lay.{judged-outside, judged-within, laid-limits, laid-ordered}
 use Rattle.engine.specs.Reach.{within-limits, steers-offsets, limits-steered}
-use Rattle.engine.specs.Rate.{rating-outside, rating-unnamed, rating-knotted, live-toward, rating-ends}
+use Rattle.engine.specs.Rate.{rate-outside, rate-unnamed, rate-knotted, live-toward, rate-ends}
 use borrow.Author.Needs.{needs}
 use Rattle.engine.proofs.rate.Statement.{statement}
 use Rattle.engine.proofs.rate.Tie as tie
@@ -15,7 +15,7 @@ unrated-requires : tie.Need-unrated-requires
 unrated-requires c κs = search needs
 
 returns : tie.Need-returns
-returns c = let k = c .before .before .before in rating-outside _ _ _ _ _ (judged-outside _ _ (k .check .ensures) (c .before .if1 .taken)) (c .unrated .ensures)
+returns c = let k = c .before .before .before in rate-outside _ _ _ _ _ (judged-outside _ _ (k .check .ensures) (c .before .if1 .taken)) (c .unrated .ensures)
 
 unrated-requires-2 : tie.Need-unrated-requires-2
 unrated-requires-2 c κs = search needs
@@ -23,7 +23,7 @@ unrated-requires-2 c κs = search needs
 returns-2 : tie.Need-returns-2
 returns-2 c =
     let k = c .before .before .before .before in
-    rating-unnamed (k .before .args .t) (judged-within (k .before .args .t) _ (k .check .ensures) (c .before .before .if1 .left)) _ _ (c .before .if2 .taken) (c .unrated2 .ensures)
+    rate-unnamed (k .before .args .t) (judged-within (k .before .args .t) _ (k .check .ensures) (c .before .before .if1 .left)) _ _ (c .before .if2 .taken) (c .unrated2 .ensures)
 
 lay-requires : tie.Need-lay-requires
 lay-requires c κs = judged-within _ _ (c .before .before .before .check .ensures) (c .before .if1 .left)
@@ -45,7 +45,7 @@ returns-3 c =
     let k = e .before .before .before in
     let t = k .before .args .t in
     let w = judged-within t _ (k .check .ensures) (e .before .if1 .left) in
-    rating-knotted t w _ (e .if2 .left) _ _ _ _ _ _ (c .before .before .before .before .before .before .before .before .before .before .lay .ensures) _ _ _ (c .before .before .before .zero-loop .ensures) _ (c .before .if3 .taken) (c .unrated3 .ensures)
+    rate-knotted t w _ (e .if2 .left) _ _ _ _ _ _ (c .before .before .before .before .before .before .before .before .before .before .lay .ensures) _ _ _ (c .before .before .before .zero-loop .ensures) _ (c .before .if3 .taken) (c .unrated3 .ensures)
 
 toward-requires : tie.Need-toward-requires
 toward-requires c κs =
@@ -80,7 +80,7 @@ returns-4 c =
     let y = c .before .before .before .before .before .before .before .before .before .before .before .before .before .before .before .before .before .before .before .before .lay .ensures in
     let f = c .before .before .before .before .before .before .before .before .toward .result in
     let s = steers-offsets _ _ _ _ _ _ f (laid-limits t w _ _ _ _ _ _ y) (e .if2 .left) (c .before .before .before .before .before .before .before .before .toward .ensures) in
-    rating-ends t w _ (e .if2 .left) _ _ _ _ _ _ y _ _ _ (c .before .before .before .before .before .before .before .before .before .before .before .before .before .zero-loop .ensures) (c .before .before .before .before .before .before .before .before .before .before .before .if3 .left) f s _ (c .ends .ensures)
+    rate-ends t w _ (e .if2 .left) _ _ _ _ _ _ y _ _ _ (c .before .before .before .before .before .before .before .before .before .before .before .before .before .zero-loop .ensures) (c .before .before .before .before .before .before .before .before .before .before .before .if3 .left) f s _ (c .ends .ensures)
 
 pub rate-spec : {M : Type 1} → statement M
 rate-spec =

@@ -4,7 +4,7 @@ use Prim.Native.Nat.{ℕ, _-_, _≤_, _<_}
 use mathlib.Core.Path.{_≡_}
 use lib.ListN.{length, getD, length-set, length-replicate}
 use native.Mathlib.Omega.{arith}
-use Rattle.period.specs.Promise.{RateOf}
+use Rattle.engine.specs.Rate.{RateOf}
 use Rattle.text.specs.Rates.{noRate, rates-next}
 use borrow.Author.Needs.{needs}
 use Rattle.text.proofs.all_rates.Statement.{statement}
