@@ -1,6 +1,6 @@
 //! The second program's side: what each call must leave behind.
 
-use std::cell::OnceCell;
+use std::cell::RefCell;
 
 use reference::analyse::{analyse, analyse_by, range_by, Analysis, Range, Room, EXACT, LISTING};
 use reference::bids;
@@ -23,12 +23,12 @@ fn listed(table: &Table) -> bool {
 /// A table with its analysis, worked out once.
 pub struct Second<'a> {
     table: &'a Table,
-    analysis: OnceCell<Result<Analysis, Refusal>>,
+    analysis: RefCell<Option<Result<Analysis, Refusal>>>,
 }
 
 impl<'a> Second<'a> {
     pub fn new(table: &'a Table) -> Second<'a> {
-        let analysis = OnceCell::new();
+        let analysis = RefCell::new(None);
         Second { table, analysis }
     }
 
@@ -60,7 +60,7 @@ impl<'a> Second<'a> {
             true => analyse_by(&LISTING, self.table, lent),
             false => analyse(self.table, lent),
         };
-        self.analysis.get_or_init(way).clone()
+        self.analysis.borrow_mut().get_or_insert_with(way).clone()
     }
 }
 

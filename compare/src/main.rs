@@ -24,7 +24,7 @@ use reference::table::{Delay, Table};
 
 fn main() {
     let words: Vec<String> = std::env::args().skip(1).collect();
-    if words.first().is_some_and(|word| word == "file") {
+    if words.first().map_or(false, |word| word == "file") {
         let bytes = std::fs::read(&words[1]).expect("a rule file");
         let mut compare = Compare::new(1);
         compare.any_file(&bytes);

@@ -159,7 +159,7 @@ impl Policy<'_> {
             let delays = walk.iter().map(|&r| self.table.rules[r].delay).sum();
             let offsets = walk.iter().map(|&r| self.table.rules[r].offset).sum();
             let ratio = Ratio::of(delays, offsets);
-            if best.as_ref().is_none_or(|(so_far, _)| ratio > *so_far) {
+            if best.as_ref().map_or(true, |(so_far, _)| ratio > *so_far) {
                 best = Some((ratio, walk));
             }
         }
@@ -294,7 +294,7 @@ fn first_shortest_loop(table: &Filled, rules: &[usize], v: usize) -> Vec<usize> 
             for &r in rules.iter().filter(|&&r| table.rules[r].source == *at) {
                 let longer: Vec<usize> = walk.iter().copied().chain([r]).collect();
                 let place = &mut next[table.rules[r].target];
-                if place.as_ref().is_none_or(|first| longer < *first) {
+                if place.as_ref().map_or(true, |first| longer < *first) {
                     *place = Some(longer);
                 }
             }

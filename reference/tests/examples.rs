@@ -12,7 +12,7 @@ fn examples_agree() {
     let mut count = 0;
     for entry in fs::read_dir(folder).unwrap() {
         let path = entry.unwrap().path();
-        if path.extension().is_some_and(|kind| kind == "rules") {
+        if path.extension().map_or(false, |kind| kind == "rules") {
             let bytes = fs::read(&path).unwrap();
             let text = fs::read_to_string(path.with_extension("txt")).unwrap();
             let expected = fs::read_to_string(path.with_extension("expected")).unwrap();

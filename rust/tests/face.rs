@@ -2,20 +2,25 @@
 //! the calls as it checks them.
 
 use std::fmt::Write;
-use std::mem::{offset_of, size_of};
+use std::mem::{size_of, MaybeUninit};
 use std::path::Path;
 use std::process::Command;
+use std::ptr::addr_of;
 
 use vedhrunak_period::face::*;
 
 /// Rust's size and places, beside the C program's lines that print its own.
 macro_rules! layout {
     ($rust:ty, $c:literal, $($field:ident)*) => {{
+        let place = MaybeUninit::<$rust>::uninit();
+        let start = place.as_ptr();
         let mut ours = format!("{} {}\n", $c, size_of::<$rust>());
         let mut program = format!("printf(\"{0} %zu\\n\", sizeof({0}));\n", $c);
         $(
             let name = stringify!($field);
-            writeln!(ours, "{}.{name} {}", $c, offset_of!($rust, $field)).unwrap();
+            // the address alone is taken: nothing is read
+            let offset = unsafe { addr_of!((*start).$field) as usize } - start as usize;
+            writeln!(ours, "{}.{name} {offset}", $c).unwrap();
             writeln!(program, "printf(\"{0}.{name} %zu\\n\", offsetof({0}, {name}));", $c).unwrap();
         )*
         (ours, program)
