@@ -30,7 +30,7 @@ use Rattle.theory.specs.Filling.{Proper, ranges-proper}
 use Rattle.theory.specs.Knot.{knot-unique, knot-not-live, knot-or-live, loop-or-none, first-knot}
 use Rattle.theory.specs.Schedule.{TightRule}
 use Rattle.theory.specs.Ends.{low-is, high-is}
-use Rattle.theory.specs.Climb.{climbed-period, climbed-some, climbed-none}
+use Rattle.theory.specs.Climb.{climbed-period, climbed-none}
 use Rattle.theory.specs.Same.{period-same, low-same, high-same}
 use Rattle.theory.specs.Wide.{period-limits, small-not-wide}
 use Rattle.theory.specs.Rate.{steered, Steers, steering, rate-steered, low-plain, high-plain, live-steered, none-plain, some-plain, fits-steered, rates-unique, rates-exist}
@@ -198,11 +198,8 @@ RatedIn S K r =
     ⊎ ((a : RateRange) × LowEnd S K (a .lowP) (a .lowQ) × HighEnd S K (a .highP) (a .highQ) × ExactRate a × (r ≡ answeredRate a))
 
 module _ (S : Shape) (D : ℕ → ℕ) (P Q : ℕ) (X : List ℕ) (live : Live S) (c : Reached S D P Q X) where
-  paced : SomeLoop S → Paced S D true P Q
+  pub paced : SomeLoop S → Paced S D true P Q
   paced some = record { none = λ z. no-flag z; period = λ z. climbed-period S D P Q X (c .climbed) live some; lowest = λ z. c .climbed .lowest }
-
-  pub paced-above : 0 < P → Paced S D true P Q
-  paced-above b = paced (climbed-some S D P Q X (c .climbed) b)
 
   module _ (n len at : ℕ) (rules : List ℕ) (f : FoundFirst S (TightRule S D P Q X) n len at rules) where
     pub paced-tight : len ≢ 0 → Paced S D true P Q

@@ -30,7 +30,7 @@ struct Pace {
     q: u64,
 }
 
-// The period with these delays. A ratio above 0 is that of a closed walk; at 0 a loop is looked for.
+// The period with these delays. Where the climb found no closed walk, the ratio is 0, and a loop is looked for.
 fn one_end(
     source: &[u16; 2048],
     target: &[u16; 2048],
@@ -45,7 +45,7 @@ fn one_end(
     let top = search::climb(source, target, offset, delay, m, n);
     let p = top.p;
     let q = top.q;
-    if 0 < p {
+    if top.found {
         return Pace {
             found: true,
             p: p,

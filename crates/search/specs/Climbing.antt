@@ -16,7 +16,7 @@
 --   going-start, going-asks, going-on, going-skip, going-end, going-carried, told-start, told-raise, told-keep   the loop of a pass
 --   settling-zeros, settling-start, settling-ready, settling-carried, settling-scanned, settling-sound, settling-quiet, settling-found, settling-on            the loop of passes
 --   least-low                       the least values that keep every rule are low
---   rising-start, rising-query, query-limits, rising-end, walk-turns, rising-walk, rising-less                           the loop of ratios
+--   rising-start, rising-query, query-limits, rising-end, walk-loop, walk-turns, rising-walk, rising-less                           the loop of ratios
 use mathlib.Core.Path.{_≡_, refl, sym, ap, subst}
 use mathlib.Core.Bool.{Bool, true, false}
 use mathlib.Core.Logic.{_⊎_, inl, inr, ⊎-elim, by-cases}
@@ -31,7 +31,7 @@ use lib.Seq.{getD-set-same}
 use Rattle.model.specs.Shape.{Shape, Fits}
 use Rattle.model.specs.Sums.{delays, offsets}
 use Rattle.model.specs.Walk.{Walk}
-use Rattle.model.specs.Loop.{Live}
+use Rattle.model.specs.Loop.{SomeLoop, Live}
 use Rattle.model.specs.Ratio.{Lowest}
 use Rattle.model.specs.Schedule.{Keeps, LeastSchedule}
 use Rattle.theory.specs.Sums.{delays-most}
@@ -42,7 +42,7 @@ use Rattle.theory.specs.Ratio.{IsGcd, Reduces, gcd-quotients, divides-pos}
 use Rattle.theory.specs.Parents.{Parents, Sound, raised-not-grounded}
 use Rattle.theory.specs.Raise.{Raised, raised-start, raised-most, Passing, passing-start, passing-raise, passing-leave, passing-skip, passing-carried, passing-end, settled}
 use Rattle.theory.specs.Period.{climbs, schedule-above}
-use Rattle.theory.specs.Climb.{ClosedWalk, closed-turns}
+use Rattle.theory.specs.Climb.{ClosedWalk, walk-some, closed-turns}
 use Rattle.columns.specs.Columns.{shape, delayAt, Limits, Short}
 use Rattle.search.specs.Search.{ParentLoop, Scanned, Passed, LowWalk, Settled, Reached}
 
@@ -441,6 +441,9 @@ module _ {S : Shape} {D : ℕ → ℕ} where
 
 -- a closed walk's quotient, in lowest terms, is a ratio to come to
 module _ {S : Shape} {D : ℕ → ℕ} {n a e : ℕ} (live : Live S) (few : n ≤ 256) (w : LowWalk S D n a e) where
+  pub walk-loop : SomeLoop S
+  walk-loop = walk-some S D a e (w .is-walk)
+
   pub walk-turns : 0 < e
   walk-turns = let c = w .is-walk in omega (arith, closed-turns S live (c .at) (c .walk) (c .some-rule) (c .closed), c .offsets-are)
 

@@ -6,9 +6,10 @@ mod scan;
 
 use scan::Met;
 ghost use mathlib.Core.Path.{_≡_};
+ghost use mathlib.Core.Bool.{true};
 ghost use Prim.Native.Nat.{_*_, _≤_, _<_};
 ghost use lib.ListN.{length};
-ghost use Rattle.model.specs.Loop.{Live};
+ghost use Rattle.model.specs.Loop.{SomeLoop, Live};
 ghost use Rattle.theory.specs.Ratio.{IsGcd};
 ghost use Rattle.columns.specs.Columns.{shape, delayAt, Limits, Short};
 ghost use Rattle.search.specs.Search.{Settled, Reached};
@@ -256,8 +257,9 @@ fn quotient(a: u64, e: u64) -> Ratio
     Ratio { p: a / d, q: e / d }
 }
 
-// The ratio at which the climb ended, in lowest terms, and the least values that keep every rule there.
+// The ratio at which the climb ended, in lowest terms, whether it is a closed walk's that was found, and the least values that keep every rule there.
 pub struct Top {
+    pub found: bool,
     pub p: u64,
     pub q: u64,
     pub x: [u64; 256],
@@ -274,6 +276,7 @@ pub fn climb(
 ) -> Top
     requires { ⌜ (Limits (now source) (now target) (now offset) m n) × (Short (now delay) m) × (Live (shape (now source) (now target) (now offset) m)) ⌝ }
     ensures { λ r. ⌜ Reached (shape (now (source .entry)) (now (target .entry)) (now (offset .entry)) m) (delayAt (now (delay .entry))) (r .p) (r .q) (r .x) ⌝ }
+    ensures { λ r. ⌜ (r .found ≡ true → SomeLoop (shape (now (source .entry)) (now (target .entry)) (now (offset .entry)) m)) ⌝ }
 {
     let order = order::order(source, target, offset, m, n);
     let mut p = 0u64;
@@ -281,6 +284,7 @@ pub fn climb(
     let first = above::start(source, target, offset, delay, &order, m, n);
     let mut par = first.par;
     let start = first.met;
+    let mut found = start.found;
     if start.found {
         let ratio = quotient(start.delays, start.offsets);
         p = ratio.p;
@@ -294,9 +298,15 @@ pub fn climb(
             p = ratio.p;
             q = ratio.q;
             par = ended.par;
+            found = true;
         } else {
             let x = ended.x;
-            return Top { p: p, q: q, x: x };
+            return Top {
+                found: found,
+                p: p,
+                q: q,
+                x: x,
+            };
         }
     }
 }

@@ -1,11 +1,11 @@
 -- What a climb from ratio to ratio ends with, and why that is the whole answer.
 --
 --   ClosedWalk S D a e      == a closed walk that is not empty, of delay sum a and offset sum e
+--   walk-some               then there is a loop
 --   closed-turns            where every loop turns, so does every closed walk
 --   Climbed S D P Q X       == X is the least list of values that keeps every rule at P/Q, in lowest terms, and P/Q is 0/1 or some closed walk's
 --   climbed-tight           if there is a loop, there is one of rules that are tight at X
 --   climbed-period          and P/Q is the period
---   climbed-some            above 0/1 there is a loop
 --   climbed-schedule        the first n values are the least schedule
 --   climbed-reported        the first loop of tight rules is the reported loop
 --   climbed-none            if there is no loop of tight rules, there is no loop
@@ -30,6 +30,7 @@ use Rattle.theory.specs.Loop.{LoopOf, closed-loop}
 use Rattle.theory.specs.Schedule.{TightRule, closed-not-above, attaining-of-rules, rules-of-attaining}
 use Rattle.theory.specs.Relax.{Below}
 use Rattle.theory.specs.First.{KindLoop, FirstLoop}
+use Rattle.theory.specs.Near.{Any, all-any}
 use Rattle.theory.specs.Period.{certified}
 use Rattle.theory.specs.Reported.{first-reported}
 
@@ -40,6 +41,9 @@ pub record ClosedWalk (S : Shape) (D : ℕ → ℕ) (a e : ℕ) : Type 0 where
   pub closed : Walk S at at walk
   pub delays-are : delays D walk ≡ a
   pub offsets-are : offsets S walk ≡ e
+
+pub walk-some : (S : Shape) (D : ℕ → ℕ) (a e : ℕ) → ClosedWalk S D a e → SomeLoop S
+walk-some S D a e w = let l = closed-loop S Any (w .at) (w .walk) (w .some-rule) (w .closed) (all-any (w .walk)) in record { at = l .at; loop = l .loop; is-loop = l .is-loop }
 
 -- a closed walk without a turn has only rules of offset 0, and a loop in it
 pub closed-turns : (S : Shape) → Live S → (u : ℕ) (rs : List ℕ) → 0 < length rs → Walk S u u rs → 0 < offsets S rs
@@ -84,15 +88,6 @@ module _ (S : Shape) (D : ℕ → ℕ) (P Q : ℕ) (X : List ℕ) (c : Climbed S
       (attaining-of-rules S D P Q X (c .keeps) (l .at) (l .loop) (l .is-loop .closed) (l .kind))
 
   -- above 0/1 the ratio is a closed walk's, and that has a loop in it
-  pub climbed-some : 0 < P → SomeLoop S
-  climbed-some b = ⊎-elim (λ z. absurd (omega (arith, z .0))) walk (c .attained)
-    where
-      walk : ((a : ℕ) × (e : ℕ) × ClosedWalk S D a e × (Q * a ≡ P * e)) → SomeLoop S
-      walk (a, e, w, t) =
-          let l = closed-loop S (TightRule S D P Q X) (w .at) (w .walk) (w .some-rule) (w .closed)
-          (rules-of-attaining S D P Q X (c .keeps) (w .at) (w .walk) (w .closed) (omega (arith, t, ap (λ x. Q * x) (w .delays-are), ap (λ x. P * x) (w .offsets-are)))) in
-          record { at = l .at; loop = l .loop; is-loop = l .is-loop }
-
   pub climbed-reported : (u : ℕ) (rs : List ℕ) → FirstLoop S (TightRule S D P Q X) u rs → Reported S D P Q u rs
   climbed-reported = first-reported S D P Q X (c .keeps)
 
