@@ -84,16 +84,17 @@ laid-start t =
       no-blank = λ e r b. absurd (omega arith);
     }
 
-pub laid-next : (t : Table) (i : ℕ) (s g o l h : List ℕ) (b b′ : Bool) (d e : ℕ) → Laid t i s g o l h b → i < 2048 → (d ≡ leastAt t i) × (e ≡ greatestAt t i)
-    → (b′ ≡ false → (b ≡ false) × (d ≡ e)) → Laid t (i + 1) (set s i (sourceOf t i)) (set g i (targetOf t i)) (set o i (offsetOf t i)) (set l i d) (set h i e) b′
-laid-next t i s g o l h b b′ d e c low v given =
+pub laid-next : (t : Table) (i : ℕ) (s g o l h : List ℕ) (b b′ : Bool) (x y z d e : ℕ) → Laid t i s g o l h b → i < 2048
+    → (x ≡ sourceOf t i) × (y ≡ targetOf t i) × (z ≡ offsetOf t i) → (d ≡ leastAt t i) × (e ≡ greatestAt t i)
+    → (b′ ≡ false → (b ≡ false) × (d ≡ e)) → Laid t (i + 1) (set s i x) (set g i y) (set o i z) (set l i d) (set h i e) b′
+laid-next t i s g o l h b b′ x y z d e c low w v given =
     record {
-      sources = column-next (sourceOf t) i _ s (c .sources) low refl;
-      targets = column-next (targetOf t) i _ g (c .targets) low refl;
-      offsets = column-next (offsetOf t) i _ o (c .offsets) low refl;
+      sources = column-next (sourceOf t) i x s (c .sources) low (w .0);
+      targets = column-next (targetOf t) i y g (c .targets) low (w .1);
+      offsets = column-next (offsetOf t) i z o (c .offsets) low (w .2);
       leasts = column-next (leastAt t) i d l (c .leasts) low (v .0);
       greatests = column-next (greatestAt t) i e h (c .greatests) low (v .1);
-      no-blank = λ f r a. by-cases (ℕ-discrete r i) (λ z. rw z (sym (v .0) ∙ given f .1 ∙ v .1)) (λ z. c .no-blank (given f .0) r (omega arith));
+      no-blank = λ f r a. by-cases (ℕ-discrete r i) (λ k. rw k (sym (v .0) ∙ given f .1 ∙ v .1)) (λ k. c .no-blank (given f .0) r (omega arith));
     }
 
 -- what a delay may be is in order

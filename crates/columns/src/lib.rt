@@ -6,6 +6,7 @@ ghost use Rattle.table.specs.Fields.{Within};
 ghost use Rattle.table.specs.Meaning.{delayOf};
 ghost use Rattle.columns.specs.Lay.{Laid};
 use table::Delay;
+use table::Rule;
 use table::Table;
 
 pub struct Columns {
@@ -38,6 +39,30 @@ fn may_be(delay: Delay) -> May
     }
 }
 
+// A rule as the columns hold it.
+struct Row {
+    source: u16,
+    target: u16,
+    offset: u16,
+    least: u32,
+    greatest: u32,
+}
+
+fn laid(rule: Rule) -> Row
+    ensures { λ r. ⌜ (r .source ≡ rule .source) × (r .target ≡ rule .target) × (r .offset ≡ rule .offset) ⌝ }
+    ensures { λ r. ⌜ (r .least ≡ leastOf (delayOf (rule .delay))) × (r .greatest ≡ greatestOf maxDelay (delayOf (rule .delay))) ⌝ }
+{
+    let delay = rule.delay;
+    let may = may_be(delay);
+    Row {
+        source: rule.source,
+        target: rule.target,
+        offset: rule.offset,
+        least: may.least,
+        greatest: may.greatest,
+    }
+}
+
 pub fn lay(t: Table) -> Columns
     requires { ⌜ Within t ⌝ }
     ensures { λ r. ⌜ Laid t (t .m) (r .source) (r .target) (r .offset) (r .least) (r .greatest) (r .blank) ⌝ }
@@ -52,14 +77,13 @@ pub fn lay(t: Table) -> Columns
     let mut i = 0;
     while i < m {
         let rule = t.rules[i];
-        let delay = rule.delay;
-        let may = may_be(delay);
-        source[i] = rule.source;
-        target[i] = rule.target;
-        offset[i] = rule.offset;
-        least[i] = may.least;
-        greatest[i] = may.greatest;
-        if may.least < may.greatest {
+        let x = laid(rule);
+        source[i] = x.source;
+        target[i] = x.target;
+        offset[i] = x.offset;
+        least[i] = x.least;
+        greatest[i] = x.greatest;
+        if x.least < x.greatest {
             blank = true;
         }
         i += 1;

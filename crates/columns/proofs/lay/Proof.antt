@@ -27,8 +27,8 @@ mul-rule c = omega arith
 element-copy-out-rule : tie.Need-element-copy-out-rule Inv-loop μ-loop
 element-copy-out-rule c = omega arith
 
-may-be-requires : tie.Need-may-be-requires Inv-loop μ-loop
-may-be-requires c κs = search needs
+laid-requires : tie.Need-laid-requires Inv-loop μ-loop
+laid-requires c κs = search needs
 
 mul-source : tie.Need-mul-source Inv-loop μ-loop
 mul-source c = omega arith
@@ -71,9 +71,9 @@ loop-again c =
     let l = c .before .before .before .before .before in
     let s = l .before in
     let k = c .before .before in
-    let given : c .if1 .blank ≡ false → (l .loop .blank ≡ false) × (k .may-be .result .least ≡ k .may-be .result .greatest) =
-    ⊎-elim (λ w e. absurd (true-false (sym (w .1) ∙ e))) (λ w e. (sym (w .1) ∙ e, omega (arith, k .may-be .ensures, w .0, ordered (ruleOf (s .args .t1) (l .loop .i) .delay)))) (c .if1 .came) in
-    (refl, omega arith, s .pre .m-high, laid-next (s .args .t1) (l .loop .i) _ _ _ _ _ (l .loop .blank) (c .if1 .blank) _ _ (l .loop .inv .3) (omega arith) (k .may-be .ensures) given)
+    let given : c .if1 .blank ≡ false → (l .loop .blank ≡ false) × (k .laid .result .least ≡ k .laid .result .greatest) =
+    ⊎-elim (λ w e. absurd (true-false (sym (w .1) ∙ e))) (λ w e. (sym (w .1) ∙ e, omega (arith, k .laid .ensures .1, w .0, ordered (ruleOf (s .args .t1) (l .loop .i) .delay)))) (c .if1 .came) in
+    (refl, omega arith, s .pre .m-high, laid-next (s .args .t1) (l .loop .i) _ _ _ _ _ (l .loop .blank) (c .if1 .blank) _ _ _ _ _ (l .loop .inv .3) (omega arith) (k .laid .ensures .0) (k .laid .ensures .1) given)
 
 returns : tie.Need-returns Inv-loop μ-loop
 returns c =
@@ -90,7 +90,7 @@ lay-spec =
     loop-holds
     mul-rule
     element-copy-out-rule
-    may-be-requires
+    laid-requires
     mul-source
     array-write-source
     mul-target
