@@ -13,7 +13,6 @@ use native.Mathlib.Omega.{arith}
 use native.Mathlib.Decide.{ℕ-discrete}
 use lib.ListN.{length, getD, set}
 use lib.Seq.{getD-set-same, getD-set-other}
-use Rattle.model.specs.Shape.{Shape}
 use Rattle.model.specs.Walk.{Walk}
 use Rattle.model.specs.Rate.{Reaches}
 use Rattle.theory.specs.Walk.{path-short, LoopAbove, Shortened, shorten}

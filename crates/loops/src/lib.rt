@@ -2,7 +2,6 @@
 mod peel;
 
 ghost use mathlib.Core.Path.{_≡_};
-ghost use mathlib.Core.Logic.{_⊎_};
 ghost use mathlib.Core.Bool.{true, false};
 ghost use mathlib.Core.List.{[]};
 ghost use Prim.Native.Nat.{ℕ, _+_, _-_, _*_, _^_, _≤_, _<_};
@@ -29,7 +28,7 @@ pub struct Found {
     pub rules: [u16; 256],
 }
 
-// How far each transition is from another, and how many of them lead there; those that do not are FAR.
+// How far each transition is from one of them, and how many were found; the others are FAR.
 pub struct Distances {
     pub dist: [u16; 256],
     pub count: usize,
