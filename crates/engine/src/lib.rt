@@ -89,7 +89,7 @@ pub fn rate(t: Table, v: usize) -> Rated
     if 0 < zero.len {
         return ends::unrated(laps::LOOP, zero.at);
     }
-    let steered = reach::toward(&source, &target, t.m, v);
+    let steered = reach::toward(&source, &target, t.m, n, v);
     let least = c.least;
     let greatest = c.greatest;
     ends::ends(

@@ -2,7 +2,7 @@
 --
 --   sum k f           == the sum of f over the numbers below k; sum-same, sum-but: equal functions, and two that agree but at one number; sum-most
 --   sign x            == 1 where x is above 0; sign-some, sign-none, sign-most
---   total k xs        == the sum of the first k numbers of a list; total-set, total-falls: one of them replaced, and by a lower one
+--   total k xs        == the sum of the first k numbers of a list; total-set: one of them replaced
 use mathlib.Core.Path.{_≡_, refl}
 use mathlib.Core.Logic.{by-cases, _≢_}
 use mathlib.Core.Bool.{Bool, true, false}
@@ -66,9 +66,6 @@ inside xs i h = by-cases (decLe (length xs) i) (λ out. absurd (omega (arith, Li
 pub total-set : (k : ℕ) (xs : List ℕ) (i x : ℕ) → i < k → 0 < getD xs i 0 → total k (set xs i x) + getD xs i 0 ≡ total k xs + x
 total-set k xs i x b l =
     omega (arith, getD-set-same xs i x 0 (inside xs i l), sum-but k (λ j. getD (set xs i x) j 0) (λ j. getD xs j 0) i b (λ j d. getD-set-other xs i j x 0 d))
-
-pub total-falls : (k : ℕ) (xs : List ℕ) (i x : ℕ) → i < k → x < getD xs i 0 → total k (set xs i x) < total k xs
-total-falls k xs i x b l = omega (arith, total-set k xs i x b (omega arith))
 
 -- no flag is both
 pub not-both : (f : Bool) → f ≡ true → f ≡ false → ⊥

@@ -2,7 +2,6 @@
 mod peel;
 
 ghost use mathlib.Core.Path.{_≡_};
-ghost use mathlib.Core.Logic.{_⊎_};
 ghost use mathlib.Core.Bool.{true, false};
 ghost use mathlib.Core.List.{[]};
 ghost use Prim.Native.Nat.{ℕ, _+_, _-_, _*_, _^_, _≤_, _<_};
@@ -12,8 +11,8 @@ ghost use Rattle.columns.specs.Columns.{shape, delayAt, Limits, Short};
 ghost use Rattle.loops.specs.Listed.{Listed, Gathered, plain, Within};
 ghost use Rattle.loops.specs.Peel.{Stays};
 ghost use Rattle.loops.specs.Linked.{Linked};
-ghost use Rattle.loops.specs.Near.{awayFrom, Near, Settled, Ways, followed};
-ghost use Rattle.loops.specs.Queue.{Noted, Searching, Looking};
+ghost use Rattle.loops.specs.Near.{awayFrom, Ways, followed};
+ghost use Rattle.loops.specs.Queue.{Noted, Searching, Looking, Sought};
 ghost use Rattle.loops.specs.Found.{numbers, Ready, FoundIn, FoundFirst};
 
 // The rules of a kind, by number, lowest first.
@@ -29,8 +28,14 @@ pub struct Found {
     pub rules: [u16; 256],
 }
 
+// How far each transition is from one of them, and how many were found; the others are FAR.
+pub struct Distances {
+    pub dist: [u16; 256],
+    pub count: usize,
+}
+
 // No transition is as far as this.
-const FAR: usize = 512;
+pub const FAR: usize = 512;
 
 // An element is read through these: a cast of the element itself would ask for its bound.
 fn wide(x: u16) -> usize
@@ -163,11 +168,13 @@ fn note(s: usize, d: usize, count: usize, dist: &mut [u16; 256], order: &mut [u1
     count + 1
 }
 
-// The source of each rule into t is d away, unless its distance was found before. The rules are linked by their targets.
+// The source of each rule into t is d away, unless its distance was found before. The rules are linked by their targets. (target, len, n and v are there for
+// the contract alone.)
 fn look_back(
     source: &[u16; 2048],
     target: &[u16; 2048],
     len: usize,
+    n: usize,
     head: &[u16; 256],
     next: &[u16; 2048],
     v: usize,
@@ -177,9 +184,9 @@ fn look_back(
     dist: &mut [u16; 256],
     order: &mut [u16; 256],
 ) -> usize
-    requires { ⌜ (Within (now source) (now target) len) × (Linked (now target) len (now head) (now next)) × (t < 256) ⌝ }
-    requires { ⌜ Searching (plain (now source) (now target) len) v t d (now dist) (now order) count ⌝ }
-    ensures { λ r. ⌜ Looking (plain (now (source .entry)) (now (target .entry)) len) v t d (now (dist .entry)) (now (order .entry)) count (now (dist .exit)) (now (order .exit)) r 0 ⌝ }
+    requires { ⌜ (Limits (now source) (now target) [] len n) × (Linked (now target) len (now head) (now next)) × (t < 256) ⌝ }
+    requires { ⌜ Searching (plain (now source) (now target) len) n v t d (now dist) (now order) count ⌝ }
+    ensures { λ r. ⌜ Looking (plain (now (source .entry)) (now (target .entry)) len) n v t d (now (dist .entry)) (now (order .entry)) count (now (dist .exit)) (now (order .exit)) r 0 ⌝ }
 {
     let mut found = count;
     let mut left = wide(head[t]);
@@ -192,17 +199,18 @@ fn look_back(
     found
 }
 
-// The least number of rules, 1 or more, from each transition to v: breadth first, so that each rule is looked at once.
+// The least number of rules, 1 or more, from each transition to v: breadth first, so that each rule is looked at once, and none when all n were found.
 fn near(
     source: &[u16; 2048],
     target: &[u16; 2048],
     len: usize,
+    n: usize,
     head: &[u16; 256],
     next: &[u16; 2048],
     v: usize,
-) -> [u16; 256]
-    requires { ⌜ (Within (now source) (now target) len) × (Linked (now target) len (now head) (now next)) × (v < 256) ⌝ }
-    ensures { λ r. ⌜ (Near (plain (now (source .entry)) (now (target .entry)) len) v r) × (Settled (plain (now (source .entry)) (now (target .entry)) len) v r) ⌝ }
+) -> Distances
+    requires { ⌜ (Limits (now source) (now target) [] len n) × (Linked (now target) len (now head) (now next)) × (v < n) ⌝ }
+    ensures { λ r. ⌜ Sought (plain (now (source .entry)) (now (target .entry)) len) n v (r .dist) (r .count) ⌝ }
 {
     let mut dist = [512u16; 256];
     let mut order = [0u16; 256];
@@ -210,6 +218,7 @@ fn near(
         source,
         target,
         len,
+        n,
         head,
         next,
         v,
@@ -221,12 +230,19 @@ fn near(
     );
     let mut done = 0;
     while done < count {
+        if n <= count {
+            return Distances {
+                dist: dist,
+                count: count,
+            };
+        }
         let t = wide(order[done]);
         let d = wide(dist[t]) + 1;
         count = look_back(
             source,
             target,
             len,
+            n,
             head,
             next,
             v,
@@ -238,7 +254,27 @@ fn near(
         );
         done += 1;
     }
-    dist
+    Distances {
+        dist: dist,
+        count: count,
+    }
+}
+
+// The same of rules that are not linked yet.
+pub fn distances_to(
+    source: &[u16; 2048],
+    target: &[u16; 2048],
+    m: usize,
+    n: usize,
+    v: usize,
+) -> Distances
+    requires { ⌜ (Limits (now source) (now target) [] m n) × (v < n) ⌝ }
+    ensures { λ r. ⌜ Sought (plain (now (source .entry)) (now (target .entry)) m) n v (r .dist) (r .count) ⌝ }
+{
+    let mut head = [0u16; 256];
+    let mut next = [0u16; 2048];
+    peel::link(target, m, &mut head, &mut next);
+    near(source, target, m, n, &head, &next, v)
 }
 
 // The rule at turn i: the list is gone through from the last rule down.
@@ -318,7 +354,8 @@ fn seek_loop(
     let mut at = 0;
     while at < n {
         if alive[at] == 1 {
-            let dist = near(source, target, len, &head, &links, at);
+            let back = near(source, target, len, n, &head, &links, at);
+            let dist = back.dist;
             let k = wide(dist[at]);
             if k < FAR {
                 let next = ways(source, target, len, at, &dist);

@@ -1,8 +1,7 @@
 -- `rate` meets its contract: the ends of the steered rules are the rate's (`rate-ends`).
 -- Assumes nothing.
-use native.Mathlib.Omega.{arith}
 use Rattle.columns.specs.Lay.{judged-outside, judged-within, laid-limits, laid-ordered}
-use Rattle.engine.specs.Reach.{within-limits, steers-offsets, limits-steered}
+use Rattle.engine.specs.Reach.{limits-plain, limits-steered}
 use Rattle.engine.specs.Rate.{rate-outside, rate-unnamed, rate-knotted, live-toward, rate-ends}
 use borrow.Author.Needs.{needs}
 use Rattle.engine.proofs.rate.Statement.{statement}
@@ -54,7 +53,7 @@ toward-requires c κs =
     let t = k .before .args .t in
     let w = judged-within t _ (k .check .ensures) (e .before .if1 .left) in
     let l = laid-limits t w _ _ _ _ _ _ (c .before .before .before .before .before .before .before .before .before .before .before .lay .ensures) in
-    (within-limits _ _ _ _ _ l, omega (arith, e .if2 .left, l .few-transitions))
+    (limits-plain _ _ _ _ _ l, e .if2 .left)
 
 ends-requires : tie.Need-ends-requires
 ends-requires c κs =
@@ -65,8 +64,8 @@ ends-requires c κs =
     let y = c .before .before .before .before .before .before .before .before .before .before .before .before .before .before .before .before .before .before .before .lay .ensures in
     let l = laid-limits t w _ _ _ _ _ _ y in
     let f = c .before .before .before .before .before .before .before .toward .result in
-    let s = steers-offsets _ _ _ _ _ _ f l (e .if2 .left) (c .before .before .before .before .before .before .before .toward .ensures) in (
-      limits-steered _ _ _ _ _ _ f l (e .if2 .left) (c .before .before .before .before .before .before .before .toward .ensures),
+    let s = c .before .before .before .before .before .before .before .toward .ensures (c .before .before .before .before .before .before .before .before .before .before .before .before .before .before .before .before .before .before .before .lay .result .offset) in (
+      limits-steered _ _ _ _ _ _ f l (e .if2 .left) s,
       laid-ordered t w _ _ _ _ _ _ y,
       live-toward t w _ (e .if2 .left) _ _ _ _ _ _ y _ _ _ (c .before .before .before .before .before .before .before .before .before .before .before .before .zero-loop .ensures) (c .before .before .before .before .before .before .before .before .before .before .if3 .left) f s,
     )
@@ -79,7 +78,7 @@ returns-4 c =
     let w = judged-within t _ (k .check .ensures) (e .before .if1 .left) in
     let y = c .before .before .before .before .before .before .before .before .before .before .before .before .before .before .before .before .before .before .before .before .lay .ensures in
     let f = c .before .before .before .before .before .before .before .before .toward .result in
-    let s = steers-offsets _ _ _ _ _ _ f (laid-limits t w _ _ _ _ _ _ y) (e .if2 .left) (c .before .before .before .before .before .before .before .before .toward .ensures) in
+    let s = c .before .before .before .before .before .before .before .before .toward .ensures (c .before .before .before .before .before .before .before .before .before .before .before .before .before .before .before .before .before .before .before .before .lay .result .offset) in
     rate-ends t w _ (e .if2 .left) _ _ _ _ _ _ y _ _ _ (c .before .before .before .before .before .before .before .before .before .before .before .before .before .zero-loop .ensures) (c .before .before .before .before .before .before .before .before .before .before .before .if3 .left) f s _ (c .ends .ensures)
 
 pub rate-spec : {M : Type 1} → statement M

@@ -12,10 +12,10 @@ use Rattle.loops.proofs.look_back.Statement.{statement}
 use Rattle.loops.proofs.look_back.Tie as tie
 
 abbrev Inv-loop : tie.InvT-loop
-Inv-loop source target len head next v t d count dist₀ order₀ found₀ left₀ dist order found left = Looking (plain source target len) v t d dist₀ order₀ count dist order found left × Points target len t left
+Inv-loop source target len n head next v t d count dist₀ order₀ found₀ left₀ dist order found left = Looking (plain source target len) n v t d dist₀ order₀ count dist order found left × Points target len t left
 
 abbrev μ-loop : tie.MeasureT-loop
-μ-loop source target len head next v t d count dist₀ order₀ found₀ left₀ dist order found left = left
+μ-loop source target len n head next v t d count dist₀ order₀ found₀ left₀ dist order found left = left
 
 mul-wide : tie.Need-mul-wide Inv-loop μ-loop
 mul-wide c = omega (arith, c .pre .0 .2)
@@ -31,7 +31,7 @@ loop-holds c =
     let s = c .before .before in
     let a = s .args in
     let e = c .wide .ensures in
-    (looking-starts (plain (a .source .now) (a .target .now) (a .len)) (a .v) (a .t) (a .d) _ _ _ (s .pre .1) _ (λ r b m. omega (arith, e, points-last (a .target .now) (a .len) (a .head .now) (a .next .now) (s .pre .0 .1) (a .t) r b m)), rw e (points-first (a .target .now) (a .len) (a .head .now) (a .next .now) (s .pre .0 .1) (a .t)))
+    (looking-starts (plain (a .source .now) (a .target .now) (a .len)) (a .n) (a .v) (a .t) (a .d) _ _ _ (s .pre .1) _ (λ r b m. omega (arith, e, points-last (a .target .now) (a .len) (a .head .now) (a .next .now) (s .pre .0 .1) (a .t) r b m)), rw e (points-first (a .target .now) (a .len) (a .head .now) (a .next .now) (s .pre .0 .1) (a .t)))
 
 sub-r : tie.Need-sub-r Inv-loop μ-loop
 sub-r c = omega arith
@@ -41,14 +41,14 @@ mul-wide-2 c =
     let l = c .before in
     let s = l .before .before .before in
     let a = s .args in
-    omega (arith, points-rule (a .target .now) (a .len) (a .head .now) (a .next .now) (s .pre .0 .1) (a .t) (l .loop .left) (l .loop .inv .1) (c .loop-test .taken) .0, s .pre .0 .0 .few)
+    omega (arith, points-rule (a .target .now) (a .len) (a .head .now) (a .next .now) (s .pre .0 .1) (a .t) (l .loop .left) (l .loop .inv .1) (c .loop-test .taken) .0, s .pre .0 .0 .few-rules)
 
 element-copy-out-wide-2 : tie.Need-element-copy-out-wide-2 Inv-loop μ-loop
 element-copy-out-wide-2 c =
     let l = c .before in
     let s = l .before .before .before in
     let a = s .args in
-    omega (arith, points-rule (a .target .now) (a .len) (a .head .now) (a .next .now) (s .pre .0 .1) (a .t) (l .loop .left) (l .loop .inv .1) (c .loop-test .taken) .0, s .pre .0 .0 .few)
+    omega (arith, points-rule (a .target .now) (a .len) (a .head .now) (a .next .now) (s .pre .0 .1) (a .t) (l .loop .left) (l .loop .inv .1) (c .loop-test .taken) .0, s .pre .0 .0 .few-rules)
 
 wide-requires-2 : tie.Need-wide-requires-2 Inv-loop μ-loop
 wide-requires-2 c κs = tt
@@ -59,21 +59,21 @@ note-requires c κs =
     let s = l .before .before .before in
     let a = s .args in
     let rule = points-rule (a .target .now) (a .len) (a .head .now) (a .next .now) (s .pre .0 .1) (a .t) (l .loop .left) (l .loop .inv .1) (c .before .before .before .before .loop-test .taken) in
-    (omega (arith, c .before .before .wide2 .ensures, s .pre .0 .0 .from-below (l .loop .left - 1) (rule .0)), s .pre .1 .low, l .loop .inv .0 .queued .near .low _, looking-room (plain (a .source .now) (a .target .now) (a .len)) (a .v) (a .t) (a .d) _ _ _ (s .pre .1) _ _ _ (l .loop .left) (l .loop .left - 1) _ (getD (a .next .now) (l .loop .left - 1) 0) (l .loop .inv .0) (rule .0) (rule .1) (c .before .before .wide2 .ensures) (omega (arith, c .before .before .wide2 .ensures, s .pre .0 .0 .from-below (l .loop .left - 1) (rule .0))) (points-all (a .target .now) (a .len) (a .head .now) (a .next .now) (s .pre .0 .1) (a .t) (l .loop .left) (l .loop .inv .1) (c .before .before .before .before .loop-test .taken) (getD (a .next .now) (l .loop .left - 1) 0) refl))
+    (omega (arith, c .before .before .wide2 .ensures, s .pre .0 .0 .fits (l .loop .left - 1) (rule .0), s .pre .0 .0 .few-transitions), s .pre .1 .low, l .loop .inv .0 .queued .near .low _, looking-room (plain (a .source .now) (a .target .now) (a .len)) (a .n) (a .v) (a .t) (a .d) _ _ _ (s .pre .1) _ _ _ (l .loop .left) (l .loop .left - 1) _ (getD (a .next .now) (l .loop .left - 1) 0) (l .loop .inv .0) (rule .0) (rule .1) (c .before .before .wide2 .ensures) (omega (arith, c .before .before .wide2 .ensures, s .pre .0 .0 .fits (l .loop .left - 1) (rule .0))) (points-all (a .target .now) (a .len) (a .head .now) (a .next .now) (s .pre .0 .1) (a .t) (l .loop .left) (l .loop .inv .1) (c .before .before .before .before .loop-test .taken) (getD (a .next .now) (l .loop .left - 1) 0) refl))
 
 mul-wide-3 : tie.Need-mul-wide-3 Inv-loop μ-loop
 mul-wide-3 c =
     let l = c .before .before .before .before .before .before in
     let s = l .before .before .before in
     let a = s .args in
-    omega (arith, points-rule (a .target .now) (a .len) (a .head .now) (a .next .now) (s .pre .0 .1) (a .t) (l .loop .left) (l .loop .inv .1) (c .before .before .before .before .before .loop-test .taken) .0, s .pre .0 .0 .few)
+    omega (arith, points-rule (a .target .now) (a .len) (a .head .now) (a .next .now) (s .pre .0 .1) (a .t) (l .loop .left) (l .loop .inv .1) (c .before .before .before .before .before .loop-test .taken) .0, s .pre .0 .0 .few-rules)
 
 element-copy-out-wide-3 : tie.Need-element-copy-out-wide-3 Inv-loop μ-loop
 element-copy-out-wide-3 c =
     let l = c .before .before .before .before .before .before in
     let s = l .before .before .before in
     let a = s .args in
-    omega (arith, points-rule (a .target .now) (a .len) (a .head .now) (a .next .now) (s .pre .0 .1) (a .t) (l .loop .left) (l .loop .inv .1) (c .before .before .before .before .before .loop-test .taken) .0, s .pre .0 .0 .few)
+    omega (arith, points-rule (a .target .now) (a .len) (a .head .now) (a .next .now) (s .pre .0 .1) (a .t) (l .loop .left) (l .loop .inv .1) (c .before .before .before .before .before .loop-test .taken) .0, s .pre .0 .0 .few-rules)
 
 wide-requires-3 : tie.Need-wide-requires-3 Inv-loop μ-loop
 wide-requires-3 c κs = tt
@@ -91,7 +91,7 @@ loop-again c =
     let s = l .before .before .before in
     let a = s .args in
     let rule = points-rule (a .target .now) (a .len) (a .head .now) (a .next .now) (s .pre .0 .1) (a .t) (l .loop .left) (l .loop .inv .1) (c .before .before .before .before .before .before .before .loop-test .taken) in (
-      looking-next (plain (a .source .now) (a .target .now) (a .len)) (a .v) (a .t) (a .d) _ _ _ (s .pre .1) _ _ _ (l .loop .left) (l .loop .left - 1) _ (c .wide3 .result) (l .loop .inv .0) (rule .0) (rule .1) (c .before .before .before .before .before .wide2 .ensures) (omega (arith, c .before .before .before .before .before .wide2 .ensures, s .pre .0 .0 .from-below (l .loop .left - 1) (rule .0))) (points-all (a .target .now) (a .len) (a .head .now) (a .next .now) (s .pre .0 .1) (a .t) (l .loop .left) (l .loop .inv .1) (c .before .before .before .before .before .before .before .loop-test .taken) (c .wide3 .result) (c .wide3 .ensures)) (omega (arith, c .before .before .before .before .before .before .before .loop-test .taken)) _ _ _ (c .before .before .note .ensures),
+      looking-next (plain (a .source .now) (a .target .now) (a .len)) (a .n) (a .v) (a .t) (a .d) _ _ _ (s .pre .1) _ _ _ (l .loop .left) (l .loop .left - 1) _ (c .wide3 .result) (l .loop .inv .0) (rule .0) (rule .1) (c .before .before .before .before .before .wide2 .ensures) (omega (arith, c .before .before .before .before .before .wide2 .ensures, s .pre .0 .0 .fits (l .loop .left - 1) (rule .0))) (points-all (a .target .now) (a .len) (a .head .now) (a .next .now) (s .pre .0 .1) (a .t) (l .loop .left) (l .loop .inv .1) (c .before .before .before .before .before .before .before .loop-test .taken) (c .wide3 .result) (c .wide3 .ensures)) (omega (arith, c .before .before .before .before .before .before .before .loop-test .taken)) _ _ _ (c .before .before .note .ensures),
       points-next (a .target .now) (a .len) (a .head .now) (a .next .now) (s .pre .0 .1) (a .t) (l .loop .left) (l .loop .inv .1) (c .before .before .before .before .before .before .before .loop-test .taken) _ (c .wide3 .ensures) .1,
     )
 

@@ -30,39 +30,39 @@ near-requires c κs =
     let l = c .before .before .before .before .before in
     let s = l .before .before .before .before in
     let a = s .args in
-    (limits-within (a .source .now) (a .target .now) (a .len) (a .n) (s .pre .0), l .before .link .ensures, omega (arith, c .before .before .before .before .loop-test .taken, s .pre .0 .few-transitions))
+    (s .pre .0, l .before .link .ensures, c .before .before .before .before .loop-test .taken)
 
 mul-wide : tie.Need-mul-wide Inv-loop μ-loop
-mul-wide c = omega (arith, c .before .before .before .before .before .before .before .before .before .before .pre .0 .few-transitions)
+mul-wide c = omega (arith, c .before .before .before .before .before .before .before .before .before .before .before .pre .0 .few-transitions)
 
 array-read-wide : tie.Need-array-read-wide Inv-loop μ-loop
-array-read-wide c = omega (arith, c .before .before .before .before .before .before .before .before .before .before .pre .0 .few-transitions)
+array-read-wide c = omega (arith, c .before .before .before .before .before .before .before .before .before .before .before .pre .0 .few-transitions)
 
 wide-requires : tie.Need-wide-requires Inv-loop μ-loop
 wide-requires c κs = omega arith
 
 ways-requires : tie.Need-ways-requires Inv-loop μ-loop
 ways-requires c κs =
-    let s = c .before .before .before .before .before .before .before .before .before .before .before .before .before in
+    let s = c .before .before .before .before .before .before .before .before .before .before .before .before .before .before in
     let a = s .args in
-    (limits-within (a .source .now) (a .target .now) (a .len) (a .n) (s .pre .0), c .before .before .before .near .ensures .0 .low)
+    (limits-within (a .source .now) (a .target .now) (a .len) (a .n) (s .pre .0), c .before .before .before .before .near .ensures .near .low)
 
 route-requires : tie.Need-route-requires Inv-loop μ-loop
 route-requires c κs =
-    let s = c .before .before .before .before .before .before .before .before .before .before .before .before .before .before .before in
+    let s = c .before .before .before .before .before .before .before .before .before .before .before .before .before .before .before .before in
     let a = s .args in
-    let near = c .before .before .before .before .before .near .ensures in
+    let near = c .before .before .before .before .before .before .near .ensures in
     let k = c .before .before .before .before .wide .ensures in
-    rw k (ready (a .source .now) (a .target .now) (a .len) (a .n) _ _ _ (s .pre .0) (c .before .before .before .before .before .before .before .before .before .before .loop-test .taken) (near .0) (near .1) (c .before .ways .ensures) (omega (arith, k, c .before .before .before .if2 .taken)))
+    rw k (ready (a .source .now) (a .target .now) (a .len) (a .n) _ _ _ (s .pre .0) (c .before .before .before .before .before .before .before .before .before .before .before .loop-test .taken) (near .near) (near .settled) (c .before .ways .ensures) (omega (arith, k, c .before .before .before .if2 .taken)))
 
 returns : tie.Need-returns Inv-loop μ-loop
 returns c =
-    let l = c .before .before .before .before .before .before .before .before .before .before .before .before in
+    let l = c .before .before .before .before .before .before .before .before .before .before .before .before .before in
     let s = l .before .before .before .before in
     let a = s .args in
-    let near = c .before .before .before .before .before .before .near .ensures in
+    let near = c .before .before .before .before .before .before .before .near .ensures in
     let k = c .before .before .before .before .before .wide .ensures in
-    rw k (found-here (a .source .now) (a .target .now) (a .len) (a .n) _ _ _ (s .pre .0) (c .before .before .before .before .before .before .before .before .before .before .before .loop-test .taken) (near .0) (near .1) (c .before .before .ways .ensures) (omega (arith, k, c .before .before .before .before .if2 .taken)) (a .list .now) _ (l .loop .inv .1) (rw k at (c .route .ensures)))
+    rw k (found-here (a .source .now) (a .target .now) (a .len) (a .n) _ _ _ (s .pre .0) (c .before .before .before .before .before .before .before .before .before .before .before .before .loop-test .taken) (near .near) (near .settled) (c .before .before .ways .ensures) (omega (arith, k, c .before .before .before .before .if2 .taken)) (a .list .now) _ (l .loop .inv .1) (rw k at (c .route .ensures)))
 
 add-at : tie.Need-add-at Inv-loop μ-loop
 add-at c = omega arith
@@ -77,7 +77,7 @@ loop-again c =
     let a = s .args in (
       omega arith,
       ⊎-elim
-          (λ w. none-far (plain (a .source .now) (a .target .now) (a .len)) (l .loop .at) (l .loop .inv .1) (a .n) (w .3 .result) (s .pre .0 .fits) (s .pre .0 .few-transitions) (w .3 .ensures .1) (omega (arith, w .5 .left)))
+          (λ w. none-far (plain (a .source .now) (a .target .now) (a .len)) (l .loop .at) (l .loop .inv .1) (a .n) (w .3 .result .dist) (s .pre .0 .fits) (s .pre .0 .few-transitions) (w .3 .ensures .settled) (omega (arith, w .6 .left)))
           (λ w. none-struck (plain (a .source .now) (a .target .now) (a .len)) (l .loop .at) (l .loop .inv .1) (a .alive .now) (s .pre .1) (λ e. omega (arith, w .left)))
           (c .if1 .came),
     )
