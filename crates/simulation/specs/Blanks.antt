@@ -1,11 +1,10 @@
 -- The search for the first blank, and a table without one as columns.
 --
 --   BlankAt t r     == r is the lowest rule of t with an unknown delay, or m where no delay is unknown
---   given-delay     without a blank the least that a delay may be is the greatest
 --   timed-same      times ask for the delays of rules alone
 --   columns-live, columns-timed   what is said of a table's columns is said of the table
 use mathlib.Core.Path.{_≡_, refl, sym, ap, _∙_, subst}
-use mathlib.Core.Bool.{false}
+use mathlib.Core.Bool.{Bool}
 use mathlib.Core.Logic.{inl, inr, ⊎-elim, by-cases}
 use mathlib.Core.List.{List}
 use Prim.Native.Nat.{ℕ, _+_, _≤_, _<_}
@@ -15,16 +14,14 @@ use lib.ListN.{getD}
 use Rattle.model.specs.Shape.{Shape}
 use Rattle.model.specs.Loop.{Live}
 use Rattle.model.specs.Times.{Cause, IsTime, Timed}
-use Rattle.model.specs.Filling.{leastOf, greatestOf}
 use Rattle.table.specs.declared.Delay.{Delay}
 use Rattle.table.specs.declared.Delay.the-variants.{Known, Unknown}
 use Rattle.table.specs.declared.Rule.{Rule}
 use Rattle.table.specs.declared.Table.{Table}
-use Rattle.table.specs.Limits.{maxDelay}
 use Rattle.table.specs.Form.{unusedRule, ruleOf}
-use Rattle.table.specs.Meaning.{used, delayOf, shapeOf, Blank, used-rule}
+use Rattle.table.specs.Meaning.{used, shapeOf, Blank, used-rule}
 use Rattle.columns.specs.Columns.{shape, delayAt}
-use Rattle.columns.specs.Lay.{leastAt, greatestAt, Laid, laid-shape, laid-least}
+use Rattle.columns.specs.Lay.{Laid, laid-shape, laid-least}
 use Rattle.simulation.specs.Simulation.{delays, NoBlank, FirstBlank}
 
 pub record BlankAt (t : Table) (r : ℕ) : Type 0 where
@@ -63,13 +60,6 @@ module _ (t : Table) where
   pub blank-none : Known-to t (t .m) → BlankAt t (t .m)
   blank-none old = record { low = omega arith; here = λ h. absurd (omega arith); none = λ s q b. old .each q (b .0) b }
 
-  ends : (d : Delay) → ¬ (d ≡ Unknown) → leastOf (delayOf d) ≡ greatestOf maxDelay (delayOf d)
-  ends Unknown h = absurd (h refl)
-  ends (Known d) h = refl
-
-  pub given-delay : NoBlank t → (r : ℕ) → r < t .m → leastAt t r ≡ greatestAt t r
-  given-delay none r l = ends (ruleOf t r .delay) (λ e. none r (l, ap (λ (x : Rule). x .delay) (used-rule t r l) ∙ e))
-
 -- delays that agree on the rules have the same times
 module _ (S : Shape) (D E : ℕ → ℕ) (same : (r : ℕ) → r < S.rules → D r ≡ E r) where
   cause-same : (T : ℕ → ℕ → ℕ) (i v : ℕ) → Cause S D T i v → Cause S E T i v
@@ -86,11 +76,11 @@ module _ (S : Shape) (D E : ℕ → ℕ) (same : (r : ℕ) → r < S.rules → D
   timed-same N n out₀ out x =
       record { T = x .T; times = λ i v a b. time-same (x .T) i v (x .times i v a b); size = x .size; rows = x .rows; rest = x .rest }
 
-module _ (t : Table) (source target offset delay : List ℕ) (laid : Laid t (t .m) source target offset delay delay false) where
+module _ (t : Table) (source target offset least greatest : List ℕ) (blank : Bool) (laid : Laid t (t .m) source target offset least greatest blank) where
   pub columns-live : Live (shapeOf t) → Live (shape source target offset (t .m))
-  columns-live live = subst Live (sym (laid-shape t source target offset delay delay false laid)) live
+  columns-live live = subst Live (sym (laid-shape t source target offset least greatest blank laid)) live
 
-  pub columns-timed : (N n : ℕ) (out₀ out : List ℕ) → Timed (shape source target offset (t .m)) (delayAt delay) N n out₀ out → Timed (shapeOf t) (delays t) N n out₀ out
+  pub columns-timed : (N n : ℕ) (out₀ out : List ℕ) → Timed (shape source target offset (t .m)) (delayAt least) N n out₀ out → Timed (shapeOf t) (delays t) N n out₀ out
   columns-timed N n out₀ out x =
-      timed-same (shapeOf t) (delayAt delay) (delays t) (laid-least t source target offset delay delay false laid) N n out₀ out
-      (subst (λ (S : Shape). Timed S (delayAt delay) N n out₀ out) (laid-shape t source target offset delay delay false laid) x)
+      timed-same (shapeOf t) (delayAt least) (delays t) (laid-least t source target offset least greatest blank laid) N n out₀ out
+      (subst (λ (S : Shape). Timed S (delayAt least) N n out₀ out) (laid-shape t source target offset least greatest blank laid) x)

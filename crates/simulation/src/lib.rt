@@ -81,11 +81,11 @@ pub fn simulate(t: Table, occurrences: usize, times: &mut [u64]) -> Simulated
     if 0 < refused.refusal {
         return refused;
     }
-    let c = known::lay(t);
+    let c = columns::lay(t);
     let source = c.source;
     let target = c.target;
     let offset = c.offset;
-    let delay = c.delay;
+    let delay = c.least; // no delay is unknown
     times::written(
         &source,
         &target,

@@ -17,9 +17,7 @@ returns : tie.Need-returns
 returns c = c .before .before .refusal .ensures .refused (c .if1 .taken) _ refl
 
 lay-requires : tie.Need-lay-requires
-lay-requires c κs =
-    let passed = c .before .before .refusal .ensures .passed (omega arith) .0 in
-    (passed .within, passed .none)
+lay-requires c κs = c .before .before .refusal .ensures .passed (omega arith) .0 .within
 
 written-requires : tie.Need-written-requires
 written-requires c κs =
@@ -28,7 +26,7 @@ written-requires c κs =
     let passed = e .before .before .refusal .ensures .passed (omega arith) .0 in
     let a = e .before .before .before .before .args in (
       laid-limits _ (passed .within) _ _ _ _ _ _ laid,
-      (laid-ordered _ (passed .within) _ _ _ _ _ _ laid .short-least, (columns-live _ _ _ _ _ laid (passed .live), (passed .span .1, omega (arith, passed .room, mul-comm (a .t .n) (a .occurrences))))),
+      (laid-ordered _ (passed .within) _ _ _ _ _ _ laid .short-least, (columns-live _ _ _ _ _ _ _ laid (passed .live), (passed .span .1, omega (arith, passed .room, mul-comm (a .t .n) (a .occurrences))))),
     )
 
 same-length : tie.Need-same-length
@@ -39,7 +37,7 @@ returns-2 c =
     let laid = c .before .before .before .before .before .before .before .before .before .before .before .before .lay .ensures in
     let e = c .before .before .before .before .before .before .before .before .before .before .before .before .before in
     let judged = e .before .before .refusal .ensures .passed (omega arith) in
-    simulated _ _ _ _ _ (judged .0) (omega arith) (judged .1) (columns-timed _ _ _ _ _ laid _ _ _ _ (c .before .before .written .ensures))
+    simulated _ _ _ _ _ (judged .0) (omega arith) (judged .1) (columns-timed _ _ _ _ _ _ _ laid _ _ _ _ (c .before .before .written .ensures))
 
 pub simulate-spec : {M : Type 1} → statement M
 simulate-spec =
