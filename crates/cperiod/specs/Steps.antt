@@ -37,8 +37,9 @@ use Rattle.rulefile.specs.File.{readOf, refusedWrite, writtenAs, Writes}
 use Rattle.rulefile.specs.RoundTrip.{read-within}
 use Rattle.simulation.specs.declared.Simulated.{Simulated}
 use Rattle.simulation.specs.Simulation.{SimulationOf}
-use Rattle.text.specs.declared.Text.{Text}
-use Rattle.text.specs.Text.{room, ReportOf, report-part}
+use Rattle.words.specs.declared.Text.{Text}
+use Rattle.words.specs.Held.{room}
+use Rattle.text.specs.Text.{ReportOf, report-part}
 use Rattle.cperiod.specs.declared.Handed.{Handed}
 use Rattle.cperiod.specs.declared.PeriodAnalysis.{PeriodAnalysis}
 use Rattle.cperiod.specs.declared.PeriodRate.{PeriodRate}

@@ -3,7 +3,7 @@ ghost use mathlib.Core.Path.{_≡_};
 ghost use mathlib.Core.List.{_++_};
 ghost use Prim.Native.Nat.{ℕ, _≤_};
 ghost use lib.ListN.{length, take, drop};
-ghost use Rattle.text.specs.Text.{room};
+ghost use Rattle.words.specs.Held.{room};
 ghost use Rattle.engine.specs.Rate.{refusedRate};
 ghost use Rattle.period.specs.Promise.{refusedAnalysis};
 ghost use Rattle.cperiod.specs.Promise.{bitOf, flatAnalysis, AnalysisFrom, flatRate, RateFrom, WritingFrom, SimulationFrom, ReportFrom, numberIn};
@@ -17,7 +17,7 @@ use crate::PeriodRate;
 use crate::PeriodStatus;
 use engine::Rated;
 use period::Analysis;
-use text::Text;
+use words::Text;
 
 const ROOM: u32 = 8;
 
