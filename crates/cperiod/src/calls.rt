@@ -8,7 +8,6 @@ ghost use Rattle.engine.specs.Rate.{refusedRate};
 ghost use Rattle.period.specs.Promise.{refusedAnalysis};
 ghost use Rattle.cperiod.specs.Promise.{bitOf, flatAnalysis, AnalysisFrom, flatRate, RateFrom, WritingFrom, SimulationFrom, ReportFrom, numberIn};
 ghost use Rattle.cperiod.specs.Bids.{BidsFrom};
-use crate::Handed;
 use crate::PeriodAnalysis;
 use crate::PeriodBids;
 use crate::PeriodCount;
@@ -16,6 +15,7 @@ use crate::PeriodNumber;
 use crate::PeriodRate;
 use crate::PeriodStatus;
 use engine::Rated;
+use handed::Handed;
 use period::Analysis;
 use words::Text;
 

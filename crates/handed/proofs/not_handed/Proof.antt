@@ -1,9 +1,9 @@
--- `columns::not_handed` meets its contract: what it hands back holds the empty table. No loop. Assumes nothing.
+-- `handed::not_handed` meets its contract: what it hands back holds the empty table. No loop. Assumes nothing.
 use mathlib.Core.Path.{ap}
 use borrow.Author.Needs.{needs}
-use Rattle.cperiod.specs.Steps.{refusedWith}
-use Rattle.cperiod.proofs.columns.not_handed.Statement.{statement}
-use Rattle.cperiod.proofs.columns.not_handed.Tie as tie
+use Rattle.handed.specs.Steps.{refusedWith}
+use Rattle.handed.proofs.not_handed.Statement.{statement}
+use Rattle.handed.proofs.not_handed.Tie as tie
 
 empty-requires : tie.Need-empty-requires
 empty-requires c κs = search needs

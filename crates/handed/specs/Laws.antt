@@ -12,8 +12,8 @@ use lib.Seq.{getD-set-same, getD-set-other}
 use Rattle.table.specs.Limits.{maxM}
 use Rattle.table.specs.Form.{unusedRule, sized, ruleOf, all-unused}
 use Rattle.table.specs.declared.Table.{Table}
-use Rattle.cperiod.specs.Columns.{Columns, ruleIn, stored, filledTo, tableOf, putTo}
-use Rattle.cperiod.specs.Steps.{stored-within}
+use Rattle.handed.specs.Columns.{Columns, ruleIn, stored, filledTo, tableOf, putTo}
+use Rattle.handed.specs.Steps.{stored-within}
 
 -- storing rules changes neither n, nor m, nor how many places there are
 filled-sizes : (c : Columns) (t : Table) (k : ℕ) → (filledTo c t k .n ≡ t .n) × (filledTo c t k .m ≡ t .m) × (length (filledTo c t k .rules) ≡ length (t .rules))

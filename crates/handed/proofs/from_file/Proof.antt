@@ -1,10 +1,10 @@
--- `columns::from_file` meets its contract: what reading gives; read, it has no more rules than places. No loop. Assumes nothing.
+-- `handed::from_file` meets its contract: what reading gives; read, it has no more rules than places. No loop. Assumes nothing.
 use mathlib.Core.Path.{ap}
 use borrow.Author.Needs.{needs}
-use Rattle.cperiod.specs.Steps.{read-few}
-use Rattle.cperiod.specs.Columns.{handedBy}
-use Rattle.cperiod.proofs.columns.from_file.Statement.{statement}
-use Rattle.cperiod.proofs.columns.from_file.Tie as tie
+use Rattle.handed.specs.Steps.{read-few}
+use Rattle.handed.specs.Columns.{handedBy}
+use Rattle.handed.proofs.from_file.Statement.{statement}
+use Rattle.handed.proofs.from_file.Tie as tie
 
 read-requires : tie.Need-read-requires
 read-requires c κs = search needs

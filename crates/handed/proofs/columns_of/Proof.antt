@@ -1,10 +1,10 @@
--- `columns::read` meets its contract: a refusal first, then the columns' lengths, then the rules. No loop. Assumes nothing.
+-- `handed::columns_of` meets its contract: a refusal first, then the columns' lengths, then the rules. No loop. Assumes nothing.
 use mathlib.Core.Path.{sym, _∙_}
 use native.Mathlib.Omega.{arith}
 use borrow.Author.Needs.{needs}
-use Rattle.cperiod.specs.Steps.{whole, read-refused, read-short-source, read-short, read-all}
-use Rattle.cperiod.proofs.columns.read.Statement.{statement}
-use Rattle.cperiod.proofs.columns.read.Tie as tie
+use Rattle.handed.specs.Steps.{whole, read-refused, read-short-source, read-short, read-all}
+use Rattle.handed.proofs.columns_of.Statement.{statement}
+use Rattle.handed.proofs.columns_of.Tie as tie
 
 unread-requires : tie.Need-unread-requires
 unread-requires c κs = search needs
@@ -51,8 +51,8 @@ same-length-5 c = search needs
 returns-4 : tie.Need-returns-4
 returns-4 c = read-all _ _ _ (c .before .before .before .before .before .before .before .before .before .before .before .before .before .before .before .before .before .before .before .before .if1 .left) (c .before .before .before .before .before .before .before .before .before .before .before .before .before .before .before .before .before .before .if2 .left) (sym (c .before .before .before .before .before .before .before .before .before .before .before .before .before .before .before .before .before .short .ensures) ∙ c .before .before .before .before .before .before .before .before .before .before .before .before .before .before .before .before .if3 .left) (c .before .before .before .before .before .before .before .before .before .before .put-columns .ensures)
 
-pub read-spec : {M : Type 1} → statement M
-read-spec =
+pub columns-of-spec : {M : Type 1} → statement M
+columns-of-spec =
     tie.close
     (tie.spec
     unread-requires

@@ -1,16 +1,30 @@
-// A table from columns and from the bytes of a file, and the columns of a table.
+// A table handed in as columns of numbers or as the bytes of a rule file, and handed out as columns: what the calls for C are asked about.
 ghost use mathlib.Core.Path.{_≡_};
 ghost use Prim.Native.Nat.{ℕ, _≤_};
 ghost use lib.ListN.{length};
 ghost use Rattle.table.specs.Limits.{maxM};
-ghost use Rattle.cperiod.specs.Columns.{columns, ruleFrom, stored, tableOf, shortOf, refusedTable, columnsOf, bytesOf, delayIn, knownIn, columnsFrom, refusedColumns, readInto, readAs};
-use crate::Handed;
-use crate::PeriodTable;
+ghost use Rattle.handed.specs.Columns.{columns, ruleFrom, stored, tableOf, shortOf, refusedTable, columnsOf, bytesOf, delayIn, knownIn, columnsFrom, refusedColumns, readInto, readAs};
 use table::Delay;
 use table::Rule;
 use table::Table;
 
 const ROOM: u32 = 8;
+
+// A table handed in: a refusal, its place and the empty table; or 0, 0 and the table.
+pub struct Handed {
+    pub refusal: u32,
+    pub place: usize,
+    pub table: Table,
+}
+
+// Refused: number and place, and 0, 0. Else 0, 0, and the counts of transitions and rules. C gets it as it is.
+#[repr(C)]
+pub struct PeriodTable {
+    pub refusal: u32,
+    pub place: usize,
+    pub n: usize,
+    pub m: usize,
+}
 
 fn rule_from(source: u16, target: u16, offset: u16, delay: u32, known: u8) -> Rule
     ensures { λ r. ⌜ r ≡ ruleFrom source target offset delay known ⌝ }
@@ -190,7 +204,7 @@ fn unread(refusal: u32, place: usize) -> PeriodTable
 }
 
 // The columns of what was handed in.
-pub fn read(
+fn columns_of(
     handed: Handed,
     source: &mut [u16],
     target: &mut [u16],
@@ -220,4 +234,19 @@ pub fn read(
         n: n,
         m: m,
     }
+}
+
+// The table of a rule file, as columns.
+pub fn read(
+    bytes: &[u8],
+    source: &mut [u16],
+    target: &mut [u16],
+    offset: &mut [u16],
+    delay: &mut [u32],
+    known: &mut [u8],
+) -> PeriodTable
+    ensures { λ r. ⌜ readInto (bytesOf (now (bytes .entry))) (columns (now (source .entry)) (now (target .entry)) (now (offset .entry)) (now (delay .entry)) (now (known .entry))) ≡ readAs r (columns (now (source .exit)) (now (target .exit)) (now (offset .exit)) (now (delay .exit)) (now (known .exit))) ⌝ }
+{
+    let handed = from_file(bytes);
+    columns_of(handed, source, target, offset, delay, known)
 }

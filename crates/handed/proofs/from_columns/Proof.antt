@@ -1,9 +1,9 @@
--- `columns::from_columns` meets its contract: refused where a column is too short, else the table of the columns. No loop. Assumes nothing.
+-- `handed::from_columns` meets its contract: refused where a column is too short, else the table of the columns. No loop. Assumes nothing.
 use mathlib.Core.Path.{sym, _∙_}
 use borrow.Author.Needs.{needs}
-use Rattle.cperiod.specs.Steps.{columns-short, columns-whole, whole}
-use Rattle.cperiod.proofs.columns.from_columns.Statement.{statement}
-use Rattle.cperiod.proofs.columns.from_columns.Tie as tie
+use Rattle.handed.specs.Steps.{columns-short, columns-whole, whole}
+use Rattle.handed.proofs.from_columns.Statement.{statement}
+use Rattle.handed.proofs.from_columns.Tie as tie
 
 short-requires : tie.Need-short-requires
 short-requires c κs = search needs

@@ -1,16 +1,16 @@
--- `columns::table_of` meets its contract. The loop's invariant: the rules below r stand in their places, and count is within the columns and the table.
+-- `handed::table_of` meets its contract. The loop's invariant: the rules below r stand in their places, and count is within the columns and the table.
 -- The measure is the count of rules to come. Assumes nothing.
 use Prim.Native.Nat.{_-_, _≤_}
 use mathlib.Core.Path.{_≡_}
 use native.Mathlib.Omega.{arith}
 use lib.ListN.{length}
 use borrow.Author.Needs.{needs}
-use Rattle.cperiod.specs.Steps.{stored-within, sized-is, filled-none, filled-next, filled-all}
-use Rattle.cperiod.specs.Columns.{columns, filledTo}
+use Rattle.handed.specs.Steps.{stored-within, sized-is, filled-none, filled-next, filled-all}
+use Rattle.handed.specs.Columns.{columns, filledTo}
 use Rattle.table.specs.Form.{sized}
 use Rattle.table.specs.Limits.{maxM}
-use Rattle.cperiod.proofs.columns.table_of.Statement.{statement}
-use Rattle.cperiod.proofs.columns.table_of.Tie as tie
+use Rattle.handed.proofs.table_of.Statement.{statement}
+use Rattle.handed.proofs.table_of.Tie as tie
 
 abbrev Inv-loop : tie.InvT-loop
 Inv-loop n source target offset delay known t₀ count r₀ t r = (r ≤ count) × (count ≤ length source) × (count ≤ maxM) × (t ≡ filledTo (columns source target offset delay known) (sized n (length source)) r)

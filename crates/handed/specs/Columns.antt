@@ -25,11 +25,11 @@ use Rattle.table.specs.declared.Delay.{Delay}
 use Rattle.table.specs.declared.Delay.the-variants.{Known, Unknown}
 use Rattle.table.specs.declared.Rule.{Rule}
 use Rattle.table.specs.declared.Table.{Table}
-use Rattle.period.specs.Promise.{pick}
+use Rattle.sevens.specs.Sevens.{pick}
 use Rattle.rulefile.specs.declared.FileRead.{FileRead}
 use Rattle.rulefile.specs.File.{readOf}
-use Rattle.cperiod.specs.declared.Handed.{Handed}
-use Rattle.cperiod.specs.declared.PeriodTable.{PeriodTable}
+use Rattle.handed.specs.declared.Handed.{Handed}
+use Rattle.handed.specs.declared.PeriodTable.{PeriodTable}
 
 -- the five columns, one place for each rule
 pub record Columns : Type 0 where

@@ -1,7 +1,7 @@
--- `columns::short` meets its contract: the tests are those of the definition. No loop. Assumes nothing.
-use Rattle.cperiod.specs.Steps.{short-target, short-offset, short-delay, short-known}
-use Rattle.cperiod.proofs.columns.short.Statement.{statement}
-use Rattle.cperiod.proofs.columns.short.Tie as tie
+-- `handed::short` meets its contract: the tests are those of the definition. No loop. Assumes nothing.
+use Rattle.handed.specs.Steps.{short-target, short-offset, short-delay, short-known}
+use Rattle.handed.proofs.short.Statement.{statement}
+use Rattle.handed.proofs.short.Tie as tie
 
 returns : tie.Need-returns
 returns c = short-target _ _ _ _ _ (c .if1 .taken)

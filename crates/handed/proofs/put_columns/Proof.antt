@@ -1,15 +1,15 @@
--- `columns::put_columns` meets its contract. The loop's invariant: each column has its first r values in its lowest places, and its length.
+-- `handed::put_columns` meets its contract. The loop's invariant: each column has its first r values in its lowest places, and its length.
 -- The measure is the count of rules to come. Assumes nothing.
 use Prim.Native.Nat.{_-_, _≤_}
 use mathlib.Core.Path.{_≡_, refl}
 use native.Mathlib.Omega.{arith}
 use lib.ListN.{length, length-set}
 use borrow.Author.Needs.{needs}
-use Rattle.cperiod.specs.Steps.{put-next, put-none, put-all, columns-same}
+use Rattle.handed.specs.Steps.{put-next, put-none, put-all, columns-same}
 use Rattle.table.specs.Form.{ruleOf}
-use Rattle.cperiod.specs.Columns.{putTo, delayIn, knownIn}
-use Rattle.cperiod.proofs.columns.put_columns.Statement.{statement}
-use Rattle.cperiod.proofs.columns.put_columns.Tie as tie
+use Rattle.handed.specs.Columns.{putTo, delayIn, knownIn}
+use Rattle.handed.proofs.put_columns.Statement.{statement}
+use Rattle.handed.proofs.put_columns.Tie as tie
 
 abbrev Inv-loop : tie.InvT-loop
 Inv-loop source₀ target₀ offset₀ delay₀ known₀ t m r₀ source target offset delay known r = (r ≤ m) × (source ≡ putTo (λ k. ruleOf t k .source) source₀ r) × (target ≡ putTo (λ k. ruleOf t k .target) target₀ r) × (offset ≡ putTo (λ k. ruleOf t k .offset) offset₀ r) × (delay ≡ putTo (λ k. delayIn (ruleOf t k .delay)) delay₀ r) × (known ≡ putTo (λ k. knownIn (ruleOf t k .delay)) known₀ r) × (length source ≡ length source₀) × (length target ≡ length target₀) × (length offset ≡ length offset₀) × (length delay ≡ length delay₀) × (length known ≡ length known₀)
