@@ -27,7 +27,7 @@ places-for-requires c κs = search needs
 loop-holds : tie.Need-loop-holds Inv-loop μ-loop
 loop-holds c =
     let a = c .before .before .before .before .before .before .before .args in
-    let k = stored-within _ _ (c .places-for .ensures) in
+    let k = stored-within (length (a .source .now)) (c .places-for .result) (c .places-for .ensures) in
     (omega arith, k .0, k .1, filled-none _ _ _ (sized-is (a .n) (length (a .source .now)) _ (c .before .empty .ensures)))
 
 mul-rule-from : tie.Need-mul-rule-from Inv-loop μ-loop
