@@ -29,7 +29,7 @@ fn main() {
     let mut second = [0u8; 16389];
     let a = io::read_full(one, &mut first);
     let b = io::read_full(two, &mut second);
-    let text = text::side_by_side(&first[..a], &second[..b]);
+    let text = bids_text::side_by_side(&first[..a], &second[..b]);
     let len = text.len;
     let bytes = text.bytes;
     io::write_all(1, &bytes[..len]);

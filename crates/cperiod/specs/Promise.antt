@@ -31,7 +31,7 @@ use Rattle.rulefile.specs.RoundTrip.{writes-unique}
 use Rattle.simulation.specs.declared.Simulated.{Simulated}
 use Rattle.simulation.specs.Simulation.{SimulationOf, simulation-unique}
 use Rattle.text.specs.Text.{FileText, text-unique}
-use Rattle.cperiod.specs.declared.Handed.{Handed}
+use Rattle.handed.specs.declared.Handed.{Handed}
 use Rattle.cperiod.specs.declared.PeriodAnalysis.{PeriodAnalysis}
 use Rattle.cperiod.specs.declared.PeriodRate.{PeriodRate}
 use Rattle.cperiod.specs.declared.PeriodCount.{PeriodCount}

@@ -3,12 +3,11 @@ ghost use mathlib.Core.Path.{_≡_};
 ghost use mathlib.Core.List.{_++_};
 ghost use Prim.Native.Nat.{ℕ, _≤_};
 ghost use lib.ListN.{length, take, drop};
-ghost use Rattle.text.specs.Text.{room};
+ghost use Rattle.words.specs.Held.{room};
 ghost use Rattle.engine.specs.Rate.{refusedRate};
 ghost use Rattle.period.specs.Promise.{refusedAnalysis};
 ghost use Rattle.cperiod.specs.Promise.{bitOf, flatAnalysis, AnalysisFrom, flatRate, RateFrom, WritingFrom, SimulationFrom, ReportFrom, numberIn};
 ghost use Rattle.cperiod.specs.Bids.{BidsFrom};
-use crate::Handed;
 use crate::PeriodAnalysis;
 use crate::PeriodBids;
 use crate::PeriodCount;
@@ -16,8 +15,9 @@ use crate::PeriodNumber;
 use crate::PeriodRate;
 use crate::PeriodStatus;
 use engine::Rated;
+use handed::Handed;
 use period::Analysis;
-use text::Text;
+use words::Text;
 
 const ROOM: u32 = 8;
 

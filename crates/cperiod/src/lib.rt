@@ -1,20 +1,12 @@
 // The calls that C links, over a table handed in as columns of numbers or as the bytes of a rule file. include/period.h declares them.
 mod calls;
-mod columns;
 
 ghost use mathlib.Core.Path.{_≡_};
 ghost use Prim.Native.Nat.{ℕ};
-ghost use Rattle.cperiod.specs.Columns.{columns, columnsOf, bytesOf, readInto, readAs};
+ghost use Rattle.handed.specs.Columns.{columns, columnsOf, bytesOf, readInto, readAs};
 ghost use Rattle.cperiod.specs.Promise.{AnalysisFrom, RateFrom, WritingFrom, SimulationFrom, ReportFrom, numberIn};
 ghost use Rattle.cperiod.specs.Bids.{BidsFrom};
-use table::Table;
-
-// A table handed in: a refusal, its place and the empty table; or 0, 0 and the table.
-pub struct Handed {
-    pub refusal: u32,
-    pub place: usize,
-    pub table: Table,
-}
+use handed::PeriodTable;
 
 // Refused: number and place, and all else 0. `exact` is 0 or 1.
 #[repr(C)]
@@ -57,15 +49,6 @@ pub struct PeriodStatus {
     pub place: usize,
 }
 
-// Refused: number and place, and 0, 0. Else 0, 0, and the counts of transitions and rules.
-#[repr(C)]
-pub struct PeriodTable {
-    pub refusal: u32,
-    pub place: usize,
-    pub n: usize,
-    pub m: usize,
-}
-
 // Refused: number and place, and 0, 0. Else the value, and how many bytes are left after it.
 #[repr(C)]
 pub struct PeriodNumber {
@@ -99,7 +82,7 @@ pub extern "C" fn period_analyse(
 ) -> PeriodAnalysis
     ensures { λ r. ⌜ AnalysisFrom (columnsOf n (columns (now (source .entry)) (now (target .entry)) (now (offset .entry)) (now (delay .entry)) (now (known .entry)))) (now (schedule .entry)) (now (low .entry)) (now (high .entry)) r (now (schedule .exit)) (now (low .exit)) (now (high .exit)) ⌝ }
 {
-    let handed = columns::from_columns(n, source, target, offset, delay, known);
+    let handed = handed::from_columns(n, source, target, offset, delay, known);
     calls::analysed(handed, schedule, low, high)
 }
 
@@ -116,7 +99,7 @@ pub extern "C" fn period_rate(
 ) -> PeriodRate
     ensures { λ r. ⌜ RateFrom (columnsOf n (columns (now (source .entry)) (now (target .entry)) (now (offset .entry)) (now (delay .entry)) (now (known .entry)))) v r ⌝ }
 {
-    let handed = columns::from_columns(n, source, target, offset, delay, known);
+    let handed = handed::from_columns(n, source, target, offset, delay, known);
     calls::rated(handed, v)
 }
 
@@ -133,7 +116,7 @@ pub extern "C" fn period_write(
 ) -> PeriodCount
     ensures { λ r. ⌜ WritingFrom (columnsOf n (columns (now (source .entry)) (now (target .entry)) (now (offset .entry)) (now (delay .entry)) (now (known .entry)))) (now (out .entry)) r (now (out .exit)) ⌝ }
 {
-    let handed = columns::from_columns(n, source, target, offset, delay, known);
+    let handed = handed::from_columns(n, source, target, offset, delay, known);
     calls::written(handed, out)
 }
 
@@ -151,7 +134,7 @@ pub extern "C" fn period_simulate(
 ) -> PeriodStatus
     ensures { λ r. ⌜ SimulationFrom (columnsOf n (columns (now (source .entry)) (now (target .entry)) (now (offset .entry)) (now (delay .entry)) (now (known .entry)))) occurrences (now (times .entry)) r (now (times .exit)) ⌝ }
 {
-    let handed = columns::from_columns(n, source, target, offset, delay, known);
+    let handed = handed::from_columns(n, source, target, offset, delay, known);
     calls::simulated(handed, occurrences, times)
 }
 
@@ -167,8 +150,7 @@ pub extern "C" fn period_read(
 ) -> PeriodTable
     ensures { λ r. ⌜ readInto (bytesOf (now (bytes .entry))) (columns (now (source .entry)) (now (target .entry)) (now (offset .entry)) (now (delay .entry)) (now (known .entry))) ≡ readAs r (columns (now (source .exit)) (now (target .exit)) (now (offset .exit)) (now (delay .exit)) (now (known .exit))) ⌝ }
 {
-    let handed = columns::from_file(bytes);
-    columns::read(handed, source, target, offset, delay, known)
+    handed::read(bytes, source, target, offset, delay, known)
 }
 
 // The analysis of the table of a rule file.
@@ -181,7 +163,7 @@ pub extern "C" fn period_file_analyse(
 ) -> PeriodAnalysis
     ensures { λ r. ⌜ AnalysisFrom (bytesOf (now (bytes .entry))) (now (schedule .entry)) (now (low .entry)) (now (high .entry)) r (now (schedule .exit)) (now (low .exit)) (now (high .exit)) ⌝ }
 {
-    let handed = columns::from_file(bytes);
+    let handed = handed::from_file(bytes);
     calls::analysed(handed, schedule, low, high)
 }
 
@@ -190,7 +172,7 @@ pub extern "C" fn period_file_analyse(
 pub extern "C" fn period_file_rate(bytes: &[u8], v: usize) -> PeriodRate
     ensures { λ r. ⌜ RateFrom (bytesOf (now (bytes .entry))) v r ⌝ }
 {
-    let handed = columns::from_file(bytes);
+    let handed = handed::from_file(bytes);
     calls::rated(handed, v)
 }
 
@@ -203,7 +185,7 @@ pub extern "C" fn period_file_simulate(
 ) -> PeriodStatus
     ensures { λ r. ⌜ SimulationFrom (bytesOf (now (bytes .entry))) occurrences (now (times .entry)) r (now (times .exit)) ⌝ }
 {
-    let handed = columns::from_file(bytes);
+    let handed = handed::from_file(bytes);
     calls::simulated(handed, occurrences, times)
 }
 

@@ -1,6 +1,6 @@
 // Reads a rule file on standard input and prints the rate of the transition named as the program's argument; with no argument the rates of all,
 // a line for those that share one. As in `report` the first 16,389 bytes decide.
-use text::Text;
+use words::Text;
 
 fn write(bytes: &[u8], len: usize) {
     if len <= bytes.len() {
@@ -15,19 +15,19 @@ fn show(line: Text) {
 }
 
 fn show_one(file: &[u8], digits: &[u8]) {
-    let v = text::transition(digits);
-    show(text::rate(file, v));
+    let v = rates_text::transition(digits);
+    show(rates_text::rate(file, v));
 }
 
 // A file that reading refuses has no transition; its refusal is then that of any rate.
 fn show_all(file: &[u8]) {
-    let all = text::list_rates(file);
+    let all = rates_text::list_rates(file);
     if all.n == 0 {
-        show(text::rate(file, 0));
+        show(rates_text::rate(file, 0));
     }
     let mut v = 0;
     while v < 256 {
-        show(text::group(all, v));
+        show(rates_text::group(all, v));
         v += 1;
     }
 }

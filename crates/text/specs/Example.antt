@@ -3,11 +3,9 @@ use mathlib.Core.Path.{_≡_, refl}
 use mathlib.Core.Bool.{true, false}
 use mathlib.Core.List.{[], _∷_}
 use Rattle.model.specs.Answer.{Answer}
-use Rattle.bids.specs.declared.Choice.the-variants.{Neither, First}
-use Rattle.bids.specs.Promise.{refusedBid, answeredBid}
-use Rattle.text.specs.Decimal.{ascii, digitsIn, decimal}
-use Rattle.text.specs.Text.{refusedLine, periodLine, answerText}
-use Rattle.text.specs.Pair.{pairText}
+use Rattle.words.specs.Decimal.{ascii, digitsIn, decimal}
+use Rattle.words.specs.Lines.{refusedLine}
+use Rattle.text.specs.Text.{periodLine, answerText}
 
 -- the answer to P1
 abbrev one : Answer
@@ -28,12 +26,3 @@ range-line = refl
 pub refused-line : refusedLine 5 0 ≡ ascii "refused 5 at 0\n"
 unfolding decimal digitsIn
 refused-line = refl
-
--- two bids
-pub three-lines : pairText (record { first = answeredBid one; second = answeredBid three; choice = First }) ≡ ascii "first period 7/1 exact\nsecond period from 3/1 to 1000003/1\nbetter first\n"
-unfolding decimal digitsIn
-three-lines = refl
-
-pub neither-lines : pairText (record { first = refusedBid 5 0; second = refusedBid 4 12; choice = Neither }) ≡ ascii "first refused 5 at 0\nsecond refused 4 at 12\nbetter neither\n"
-unfolding decimal digitsIn
-neither-lines = refl

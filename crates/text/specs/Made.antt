@@ -1,13 +1,13 @@
--- Steps of the proofs: the text made of an analysis is the text for its table, and what was put into a fresh buffer is held whole.
+-- Steps of the proofs: the text made of an analysis is the text for its table.
 --
 --   answerOf r l h x     the answer that the analysis r, with the loops l and h and the schedule x, stands for
 --   TableReport t r      what `judged` promises
 --   Sized n o            the lists of an outcome are there, and not long
 --
--- Laws: analysed-refused, analysed-answer, analysed-sized (an analysis with room), holds-put, report-refused, report-judged.
+-- Laws: analysed-refused, analysed-answer, analysed-sized (an analysis with room), report-refused, report-judged.
 use mathlib.Core.Path.{_≡_, refl, sym, ap, _∙_, subst}
-use mathlib.Core.List.{List, [], _∷_, _++_}
-use Prim.Native.Nat.{ℕ, _+_, _-_, _≤_, _<_}
+use mathlib.Core.List.{List}
+use Prim.Native.Nat.{ℕ, _≤_, _<_}
 use native.Mathlib.Omega.{arith}
 use lib.Dec.{ltb}
 use lib.ListN.{length, take, drop, replicate, length-append, length-replicate}
@@ -21,11 +21,12 @@ use Rattle.engine.specs.Verdict.{Verdict, outside, knotted, flat, wide, found, 
 use Rattle.rulefile.specs.declared.FileRead.{FileRead}
 use Rattle.rulefile.specs.File.{readOf}
 use Rattle.period.specs.declared.Analysis.{Analysis}
-use Rattle.period.specs.Promise.{Outcome, outcome, judgedOutcome, roomFor, outcomeOf, AnalysisOf}
-use Rattle.text.specs.declared.Text.{Text}
-use Rattle.text.specs.Decimal.{pick}
-use Rattle.text.specs.Puts.{Puts, puts-whole}
-use Rattle.text.specs.Text.{refusedLine, answerText, verdictText, TableText, ReadText, room, Holds, ReportOf}
+use Rattle.period.specs.Promise.{Outcome, judgedOutcome, roomFor, outcomeOf, AnalysisOf}
+use Rattle.words.specs.declared.Text.{Text}
+use Rattle.words.specs.Decimal.{pick}
+use Rattle.words.specs.Lines.{refusedLine}
+use Rattle.words.specs.Held.{Holds}
+use Rattle.text.specs.Text.{answerText, verdictText, TableText, ReadText, ReportOf}
 
 abbrev pub answerOf : Analysis → List ℕ → List ℕ → List ℕ → Answer
 answerOf r l h x =
@@ -121,15 +122,6 @@ module _ (t : Table) where
               low-fits = omega (arith, length-append (a .lowLoop) (drop (length (a .lowLoop)) fresh));
               high-fits = omega (arith, length-append (a .highLoop) (drop (length (a .highLoop)) fresh));
             })
-
--- what was put into a fresh buffer, and did not fill it, is held whole
-pub holds-put : (s o : List ℕ) (p : ℕ) → Puts s (replicate room 0) 0 o p → p < room → Holds (record { len = p; bytes = o }) s
-holds-put s o p a h =
-    let w = puts-whole s o room p a h in
-    record { fits = w .0; result = made-same p o (length s) (s ++ replicate (room - length s) 0) (w .1) (w .2) }
-  where
-    made-same : (n : ℕ) (x : List ℕ) (m : ℕ) (y : List ℕ) → n ≡ m → x ≡ y → _≡_ {A = Text} (record { len = n; bytes = x }) (record { len = m; bytes = y })
-    made-same n x m y e f = cc
 
 -- the texts of a file
 pub report-refused : (s : List ℕ) (f : FileRead) (r : Text) → f ≡ readOf s → 0 < f .refusal → Holds r (refusedLine (f .refusal) (f .place)) → ReportOf s r

@@ -1,28 +1,22 @@
--- The text that the program prints for a rule file. To be read beside the paper's "The program".
+-- The text that the program prints for a rule file. To be read beside the paper's "The program". Its words and the lines of a period and of a refusal
+-- are those of `words`.
 --
---   newline             what ends a line
---   ratio p q           `P/Q`
---   refusedLine f p     `refused F at P`
---   exactLine p q       `period P/Q exact`
---   rangeLine p q p′ q′ `period from P/Q to P/Q`
 --   listLine name xs    a name, then numbers
 --   answerText a        the four lines of an answer
 --   verdictText v       the text for the verdict v on a table: its answer, or its refusal with the paper's number
 --   TableText t x       x is the text for the table t
 --   ReadText f x        x is the text for what was read of a file
 --   FileText s x        x is the text for the file s
---   Holds r x           r holds the whole of x
 --   ReportOf s r        THE PROMISE of `report`: r holds the text for the file s
 --
--- Theorems: text-unique, report-unique (one outcome), report-first (the first bytes of a file decide), holds-part, report-part (where the text stands).
+-- Theorems: text-unique, report-unique (one outcome), report-first (the first bytes of a file decide), report-part (where the text stands).
 use mathlib.Core.Path.{_≡_, sym, ap, _∙_, subst}
 use mathlib.Core.Logic.{by-cases}
-use mathlib.Core.List.{List, [], _∷_, _++_}
-use Prim.Native.Nat.{ℕ, _+_, _-_, _≤_, _<_}
+use mathlib.Core.List.{List, _∷_, _++_}
+use Prim.Native.Nat.{ℕ, _+_, _≤_, _<_}
 use native.Mathlib.Omega.{arith}
 use native.Mathlib.Decide.{decLt}
-use lib.ListN.{length, take, replicate, length-append}
-use lib.Seq.{take-append-seam}
+use lib.ListN.{length, take}
 use Rattle.model.specs.Answer.{Answer}
 use Rattle.sevens.specs.Sevens.{Bytes}
 use Rattle.table.specs.declared.Table.{Table}
@@ -31,25 +25,12 @@ use Rattle.rulefile.specs.File.{readOf}
 use Rattle.rulefile.specs.Length.{longest}
 use Rattle.rulefile.specs.First.{first-bytes}
 use Rattle.engine.specs.Verdict.{Verdict, outside, knotted, flat, wide, found, Judges, verdict-unique}
-use Rattle.text.specs.declared.Text.{Text}
-use Rattle.text.specs.Decimal.{ascii, pick, decimal, numbers}
+use Rattle.words.specs.declared.Text.{Text}
+use Rattle.words.specs.Decimal.{ascii, pick, numbers}
+use Rattle.words.specs.Lines.{newline, refusedLine, exactLine, rangeLine}
+use Rattle.words.specs.Held.{Holds, held-unique, holds-part}
 
 -- ------------------------------------------------------------------------------------------------------------------------------------ the lines
-
-abbrev pub newline : List ℕ
-newline = ascii "\n"
-
-abbrev pub ratio : ℕ → ℕ → List ℕ
-ratio p q = decimal p ++ (ascii "/" ++ decimal q)
-
-abbrev pub refusedLine : ℕ → ℕ → List ℕ
-refusedLine f p = ascii "refused " ++ (decimal f ++ (ascii " at " ++ (decimal p ++ newline)))
-
-abbrev pub exactLine : ℕ → ℕ → List ℕ
-exactLine p q = ascii "period " ++ (ratio p q ++ (ascii " exact" ++ newline))
-
-abbrev pub rangeLine : ℕ → ℕ → ℕ → ℕ → List ℕ
-rangeLine p q p′ q′ = ascii "period from " ++ (ratio p q ++ (ascii " to " ++ (ratio p′ q′ ++ newline)))
 
 -- a name, then numbers, each after a space
 abbrev pub listLine : List ℕ → List ℕ → List ℕ
@@ -93,15 +74,6 @@ FileText s x = ReadText (readOf s) x
 
 -- ---------------------------------------------------------------------------------------------------------------------------------- the promise
 
--- more bytes than a text has
-abbrev pub room : ℕ
-room = 16384
-
--- all of x is in r, with its length, and zeros after it
-pub record Holds (r : Text) (x : List ℕ) : Type 0 where
-  pub fits : length x ≤ room
-  pub result : r ≡ record { len = length x; bytes = x ++ replicate (room - length x) 0 }
-
 pub record ReportOf (s : List ℕ) (r : Text) : Type 0 where
   pub text : List ℕ
   pub is-text : FileText s text
@@ -121,22 +93,12 @@ text-unique s x y a b =
 
 -- ONLY ONE OUTCOME
 pub report-unique : (s : List ℕ) (r r′ : Text) → ReportOf s r → ReportOf s r′ → r ≡ r′
-report-unique s r r′ a b =
-    a .is-held .result
-    ∙ ap (λ (x : List ℕ). record { len = length x; bytes = x ++ replicate (room - length x) 0 }) (text-unique s (a .text) (b .text) (a .is-text) (b .is-text))
-    ∙ sym (b .is-held .result)
+report-unique s r r′ a b = held-unique _ _ r r′ (text-unique s (a .text) (b .text) (a .is-text) (b .is-text)) (a .is-held) (b .is-held)
 
 -- THE FIRST BYTES DECIDE: the report on `longest + 1` bytes of a file, or more, is the report on the whole file
 pub report-first : (s : List ℕ) (k : ℕ) → Bytes s → longest + 1 ≤ k → (r : Text) → ReportOf (take k s) r → ReportOf s r
 report-first s k b h r a =
     record { text = a .text; is-text = subst (λ (f : FileRead). ReadText f (a .text)) (first-bytes s k b h) (a .is-text); is-held = a .is-held }
-
--- what is held is the first `len` bytes, and these are there
-pub holds-part : (r : Text) (x : List ℕ) → Holds r x → (r .len ≤ length (r .bytes)) × (r .len ≡ length (take (r .len) (r .bytes))) × (take (r .len) (r .bytes) ≡ x)
-holds-part r x held =
-    let zeros = replicate {A = ℕ} (room - length x) 0 in
-    subst (λ (h : Text). (h .len ≤ length (h .bytes)) × (h .len ≡ length (take (h .len) (h .bytes))) × (take (h .len) (h .bytes) ≡ x)) (sym (held .result))
-    (omega (arith, length-append x zeros), sym (ap length (take-append-seam x zeros)), take-append-seam x zeros)
 
 -- THE TEXT IS THE FIRST `len` BYTES, and these are there
 pub report-part : (s : List ℕ) (r : Text) (a : ReportOf s r) → (r .len ≤ length (r .bytes)) × (r .len ≡ length (take (r .len) (r .bytes))) × (take (r .len) (r .bytes) ≡ a .text)

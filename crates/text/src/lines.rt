@@ -1,60 +1,37 @@
-// The lines of a text, each put into a lent buffer from a place on, with a bound on what it takes.
-ghost use mathlib.Core.Path.{_≡_};
-ghost use mathlib.Core.List.{[], _∷_, _++_};
+// The lines of a report, each put into a lent buffer from a place on, with a bound on what it takes.
+ghost use mathlib.Core.List.{[], _∷_};
 ghost use Prim.Native.Nat.{ℕ, _+_, _*_, _≤_};
 ghost use lib.ListN.{length};
-ghost use Rattle.text.specs.Decimal.{ascii};
-ghost use Rattle.text.specs.Puts.{Puts};
-ghost use Rattle.text.specs.Text.{refusedLine, exactLine, rangeLine, periodLine, listLine, answerText};
-ghost use Rattle.text.specs.Text.{ratio as Text·ratio};
+ghost use Rattle.words.specs.Decimal.{ascii, numbers};
+ghost use Rattle.words.specs.Puts.{Puts};
+ghost use Rattle.text.specs.Text.{periodLine, listLine, answerText};
 ghost use Rattle.text.specs.Made.{answerOf};
-use crate::put;
 use period::Analysis;
-use period::End;
 
-pub fn wide_usize(x: usize) -> u64
-    ensures { λ r. ⌜ r ≡ x ⌝ }
+// Numbers, each after a space.
+fn values(xs: &[u64], out: &mut [u8], at: usize) -> usize
+    ensures { λ r. ⌜ Puts (numbers (now (xs .entry))) (now (out .entry)) at (now (out .exit)) r × (r ≤ at + 21 * length (now (xs .entry))) ⌝ }
 {
-    x as u64
+    let mut next = at;
+    let mut i = 0;
+    while i < xs.len() {
+        next = words::number(xs[i], out, next);
+        i += 1;
+    }
+    next
 }
 
-pub fn ratio(end: End, out: &mut [u8], at: usize) -> usize
-    ensures { λ r. ⌜ Puts (Text·ratio (end .p) (end .q)) (now (out .entry)) at (now (out .exit)) r × (r ≤ at + 41) ⌝ }
+// The same for rule numbers.
+fn rules(xs: &[u32], out: &mut [u8], at: usize) -> usize
+    ensures { λ r. ⌜ Puts (numbers (now (xs .entry))) (now (out .entry)) at (now (out .exit)) r × (r ≤ at + 21 * length (now (xs .entry))) ⌝ }
 {
-    let a = put::decimal(end.p, out, at);
-    let b = put::byte(b'/', out, a);
-    put::decimal(end.q, out, b)
-}
-
-pub fn refused_line(refusal: u32, place: usize, out: &mut [u8], at: usize) -> usize
-    ensures { λ r. ⌜ Puts (refusedLine refusal place) (now (out .entry)) at (now (out .exit)) r × (r ≤ at + 53) ⌝ }
-{
-    let f = put::wide(refusal);
-    let p = wide_usize(place);
-    let a = put::word(b"refused ", out, at);
-    let b = put::decimal(f, out, a);
-    let c = put::word(b" at ", out, b);
-    let d = put::decimal(p, out, c);
-    put::byte(b'\n', out, d)
-}
-
-pub fn exact_line(end: End, out: &mut [u8], at: usize) -> usize
-    ensures { λ r. ⌜ Puts (exactLine (end .p) (end .q)) (now (out .entry)) at (now (out .exit)) r × (r ≤ at + 99) ⌝ }
-{
-    let a = put::word(b"period ", out, at);
-    let b = ratio(end, out, a);
-    let c = put::word(b" exact", out, b);
-    put::byte(b'\n', out, c)
-}
-
-pub fn range_line(low: End, high: End, out: &mut [u8], at: usize) -> usize
-    ensures { λ r. ⌜ Puts (rangeLine (low .p) (low .q) (high .p) (high .q)) (now (out .entry)) at (now (out .exit)) r × (r ≤ at + 99) ⌝ }
-{
-    let a = put::word(b"period from ", out, at);
-    let b = ratio(low, out, a);
-    let c = put::word(b" to ", out, b);
-    let d = ratio(high, out, c);
-    put::byte(b'\n', out, d)
+    let mut next = at;
+    let mut i = 0;
+    while i < xs.len() {
+        next = words::number(words::wide(xs[i]), out, next);
+        i += 1;
+    }
+    next
 }
 
 fn period_line(a: Analysis, out: &mut [u8], at: usize) -> usize
@@ -63,26 +40,26 @@ fn period_line(a: Analysis, out: &mut [u8], at: usize) -> usize
     let low = a.low;
     let high = a.high;
     if a.exact {
-        return exact_line(high, out, at);
+        return words::exact_line(high.p, high.q, out, at);
     }
-    range_line(low, high, out, at)
+    words::range_line(low.p, low.q, high.p, high.q, out, at)
 }
 
-fn loop_line(name: &[u8], rules: &[u32], out: &mut [u8], at: usize) -> usize
-    ensures { λ r. ⌜ Puts (listLine (now (name .entry)) (now (rules .entry))) (now (out .entry)) at (now (out .exit)) r × (r ≤ at + length (now (name .entry)) + 21 * length (now (rules .entry)) + 1) ⌝ }
+fn loop_line(name: &[u8], xs: &[u32], out: &mut [u8], at: usize) -> usize
+    ensures { λ r. ⌜ Puts (listLine (now (name .entry)) (now (xs .entry))) (now (out .entry)) at (now (out .exit)) r × (r ≤ at + length (now (name .entry)) + 21 * length (now (xs .entry)) + 1) ⌝ }
 {
-    let a = put::word(name, out, at);
-    let b = put::rules(rules, out, a);
-    put::byte(b'\n', out, b)
+    let a = words::word(name, out, at);
+    let b = rules(xs, out, a);
+    words::byte(b'\n', out, b)
 }
 
 fn schedule_line(q: u64, x: &[u64], out: &mut [u8], at: usize) -> usize
     ensures { λ r. ⌜ Puts (listLine (ascii "schedule") (q ∷ now (x .entry))) (now (out .entry)) at (now (out .exit)) r × (r ≤ at + 30 + 21 * length (now (x .entry))) ⌝ }
 {
-    let a = put::word(b"schedule", out, at);
-    let b = put::number(q, out, a);
-    let c = put::values(x, out, b);
-    put::byte(b'\n', out, c)
+    let a = words::word(b"schedule", out, at);
+    let b = words::number(q, out, a);
+    let c = values(x, out, b);
+    words::byte(b'\n', out, c)
 }
 
 pub fn answer(a: Analysis, low: &[u32], high: &[u32], x: &[u64], out: &mut [u8], at: usize) -> usize

@@ -1,6 +1,6 @@
--- `bids_program::main` is safe and ends: the text is the first part of what `text::side_by_side` hands back. Assumes nothing of what is read.
+-- `bids_program::main` is safe and ends: the text is the first part of what `bids_text::side_by_side` hands back. Assumes nothing of what is read.
 use borrow.Author.Needs.{needs}
-use Rattle.text.specs.Pair.{pair-part}
+use Rattle.bids_text.specs.Pair.{pair-part}
 use Rattle.bids_program.proofs.main.Statement.{statement}
 use Rattle.bids_program.proofs.main.Tie as tie
 

@@ -2,7 +2,8 @@
 use mathlib.Core.Path.{sym}
 use native.Mathlib.Omega.{arith}
 use lib.Seq.{length-take-le}
-use Rattle.text.specs.Made.{holds-put, analysed-refused, analysed-answer, analysed-sized}
+use Rattle.words.specs.Held.{holds-put}
+use Rattle.text.specs.Made.{analysed-refused, analysed-answer, analysed-sized}
 use borrow.Author.Needs.{needs}
 use Rattle.text.proofs.judged.Statement.{statement}
 use Rattle.text.proofs.judged.Tie as tie

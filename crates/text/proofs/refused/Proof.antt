@@ -1,6 +1,6 @@
 -- `text::refused` meets its contract: the line is put into a fresh buffer. No loop. Assumes nothing.
 use native.Mathlib.Omega.{arith}
-use Rattle.text.specs.Made.{holds-put}
+use Rattle.words.specs.Held.{holds-put}
 use borrow.Author.Needs.{needs}
 use Rattle.text.proofs.refused.Statement.{statement}
 use Rattle.text.proofs.refused.Tie as tie

@@ -1,6 +1,6 @@
 -- `text::lines::answer` meets its contract: its four lines one after the other. No loop. Assumes nothing.
 use native.Mathlib.Omega.{arith}
-use Rattle.text.specs.Puts.{puts-then}
+use Rattle.words.specs.Puts.{puts-then}
 use borrow.Author.Needs.{needs}
 use Rattle.text.proofs.lines.answer.Statement.{statement}
 use Rattle.text.proofs.lines.answer.Tie as tie

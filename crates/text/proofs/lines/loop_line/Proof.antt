@@ -1,6 +1,6 @@
 -- `text::lines::loop_line` meets its contract: its parts one after the other. No loop. Assumes nothing.
 use native.Mathlib.Omega.{arith}
-use Rattle.text.specs.Puts.{puts-then}
+use Rattle.words.specs.Puts.{puts-then}
 use borrow.Author.Needs.{needs}
 use Rattle.text.proofs.lines.loop_line.Statement.{statement}
 use Rattle.text.proofs.lines.loop_line.Tie as tie

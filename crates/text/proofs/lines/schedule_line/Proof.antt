@@ -2,8 +2,8 @@
 use mathlib.Core.Path.{sym}
 use mathlib.Core.List.{[], _∷_}
 use native.Mathlib.Omega.{arith}
-use Rattle.text.specs.Decimal.{numbers-append}
-use Rattle.text.specs.Puts.{puts-then, puts-same}
+use Rattle.words.specs.Decimal.{numbers-append}
+use Rattle.words.specs.Puts.{puts-then, puts-same}
 use borrow.Author.Needs.{needs}
 use Rattle.text.proofs.lines.schedule_line.Statement.{statement}
 use Rattle.text.proofs.lines.schedule_line.Tie as tie
