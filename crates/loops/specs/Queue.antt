@@ -3,10 +3,12 @@
 --
 --   unknown n d                == how many of the n distances were not found
 --   Queued S n v d order k     == the first k places of order hold the transitions whose distances were found, nearest first
+--   queue-past, queue-put      a place past those k is written, and a new distance joins them
+--   queue-room, queue-full     fewer than n were found where one was not; with n, each was
 --   Noted s x ..               == s is x away, unless its distance was found before
 --   Stem S v t x               == the source of each rule into t has a walk of x rules to v
 --   Searching S n v t x ..     == the rules into t may be looked at; ready-home, ready-next
---   Looking ..                 == where the loop over the rules into t is: those from left on are done; looking-starts, looking-room, looking-next
+--   Looking ..                 == where the loop over the rules into t is: those from left on are done; looking-starts, looking-next, looking-full
 --   Spreading ..               == where the loop over the queue is; spreading-starts, spreading-next, spreading-ends
 --   Sought S n v d k           == the distances of all transitions to v, of which k were found
 use mathlib.Core.Path.{_≡_, refl, ap, sym, _∙_}
@@ -16,7 +18,7 @@ use Prim.Native.Nat.{ℕ, _+_, _-_, _≤_, _<_}
 use native.Mathlib.Omega.{arith}
 use native.Mathlib.Decide.{ℕ-discrete, decLt}
 use lib.ListN.{length, getD, set, replicate, getD-replicate}
-use lib.Seq.{getD-set-same, getD-set-other}
+use lib.Seq.{getD-set-same, getD-set-other, set-getD}
 use Rattle.model.specs.Shape.{Shape, Fits}
 use Rattle.loops.specs.Sum.{sum, sum-but, sum-most, sign, sign-some, sign-none, sign-most, inside}
 use Rattle.loops.specs.Linked.{Row, row-none, row-set}
@@ -37,10 +39,17 @@ pub record Queued (S : Shape) (n v : ℕ) (d order : List ℕ) (k : ℕ) : Type 
   pub slow : (i : ℕ) → i < k → getD d (getD order i 0) 0 ≤ i + 1
   pub few : k + unknown n d ≤ n
 
--- s is x away, unless its distance was found before
+-- s is x away, unless its distance was found before; it stands at the place after the first k₀, which counts where it is new
 pub record Noted (s x : ℕ) (d₀ d order₀ order : List ℕ) (k₀ k : ℕ) : Type 0 where
-  pub known : getD d₀ s 0 < 512 → (d ≡ d₀) × (order ≡ order₀) × (k ≡ k₀)
-  pub new : getD d₀ s 0 ≡ 512 → (d ≡ set d₀ s x) × (order ≡ set order₀ k₀ s) × (k ≡ k₀ + 1)
+  pub known : getD d₀ s 0 < 512 → (d ≡ d₀) × (k ≡ k₀)
+  pub new : getD d₀ s 0 ≡ 512 → (d ≡ set d₀ s x) × (k ≡ k₀ + 1)
+  pub put : order ≡ set order₀ k₀ s
+
+-- the distance y is stored, and z more count
+pub noted : (s x : ℕ) (d order : List ℕ) (k y z : ℕ) → (getD d s 0 < 512 → y ≡ getD d s 0) × (getD d s 0 ≡ 512 → y ≡ x) → (getD d s 0 < 512 → z ≡ 0) × (getD d s 0 ≡ 512 → z ≡ 1) →
+    Noted s x d (set d s y) order (set order k s) k (k + z)
+noted s x d order k y z stored counted =
+    record { known = λ l. (rw (stored .0 l) (set-getD d s 0), omega (arith, counted .0 l)); new = λ e. (ap (set d s) (stored .1 e), omega (arith, counted .1 e)); put = refl }
 
 -- the source of each rule into t has a walk of x rules to v
 abbrev pub Stem : Shape → ℕ → ℕ → ℕ → Type 0
@@ -53,6 +62,24 @@ pub record Searching (S : Shape) (n v t x : ℕ) (d order : List ℕ) (k : ℕ) 
   pub top : (i : ℕ) → i < k → getD d (getD order i 0) 0 ≤ x
   pub soon : x ≤ k + 1
   pub low : x < 512
+
+-- s is written at place k, which is not among the first k
+module _ (order : List ℕ) (k s : ℕ) where
+  kept : (i : ℕ) → i < k → getD (set order k s) i 0 ≡ getD order i 0
+  kept i l = getD-set-other order k i s 0 (λ e. omega arith)
+
+  pub queue-past : (S : Shape) (n v : ℕ) (d : List ℕ) → Queued S n v d order k → k < n → s < n → Queued S n v d (set order k s) k
+  queue-past S n v d h more below =
+      record {
+        near = h .near;
+        room = h .room;
+        row = row-set n order k s (h .row) (omega (arith, h .room)) below;
+        listed = λ x b l. let t = h .listed x b l in (t .0, t .1, kept (t .0) (t .1) ∙ t .2);
+        found = λ i l. rw (kept i l) (h .found i l);
+        rising = λ i j a l. rw (kept i (omega arith), kept j l) (h .rising i j a l);
+        slow = λ i l. rw (kept i l) (h .slow i l);
+        few = h .few;
+      }
 
 -- a new distance x, of s, joins the queue
 module _ (S : Shape) (n v s x : ℕ) (d order : List ℕ) (k : ℕ) (h : Queued S n v d order k) (below : s < n) (new : getD d s 0 ≡ 512) (low : x < 512) where
@@ -82,14 +109,11 @@ module _ (S : Shape) (n v s x : ℕ) (d order : List ℕ) (k : ℕ) (h : Queued 
   apart : (i : ℕ) → i < k → getD order i 0 ≢ s
   apart i l e = omega (arith, new, h .found i l, ap (λ z. getD d z 0) e)
 
-  kept : (i : ℕ) → i < k → getD (set order k s) i 0 ≡ getD order i 0
-  kept i l = getD-set-other order k i s 0 (λ e. omega arith)
-
   last : getD (set order k s) k 0 ≡ s
   last = getD-set-same order k s 0 (omega (arith, h .room, h .row .room, queue-room))
 
   same-far : (i : ℕ) → i < k → getD (set d s x) (getD (set order k s) i 0) 0 ≡ getD d (getD order i 0) 0
-  same-far i l = ap (λ z. getD (set d s x) z 0) (kept i l) ∙ other (getD order i 0) (apart i l)
+  same-far i l = ap (λ z. getD (set d s x) z 0) (kept order k s i l) ∙ other (getD order i 0) (apart i l)
 
   last-far : getD (set d s x) (getD (set order k s) k 0) 0 ≡ x
   last-far = ap (λ z. getD (set d s x) z 0) last ∙ here
@@ -102,7 +126,7 @@ module _ (S : Shape) (n v s x : ℕ) (d order : List ℕ) (k : ℕ) (h : Queued 
         row = row-set n order k s (h .row) (omega (arith, h .room, queue-room)) below;
         listed = λ y b l. by-cases (ℕ-discrete y s)
             (λ e. (k, omega arith, last ∙ sym e))
-            (λ e. let t = h .listed y b (omega (arith, l, other y e)) in (t .0, omega (arith, t .1), kept (t .0) (t .1) ∙ t .2));
+            (λ e. let t = h .listed y b (omega (arith, l, other y e)) in (t .0, omega (arith, t .1), kept order k s (t .0) (t .1) ∙ t .2));
         found = λ i l. by-cases (ℕ-discrete i k) (λ e. rw e (omega (arith, last-far))) (λ e. let b : i < k = omega arith in omega (arith, same-far i b, h .found i b));
         rising = λ i j a l. by-cases (ℕ-discrete j k)
             (λ e. by-cases (ℕ-discrete i k) (λ f. rw (e, f) (omega arith)) (λ f. let b : i < k = omega arith in rw e (omega (arith, last-far, same-far i b, top i b))))
@@ -113,6 +137,11 @@ module _ (S : Shape) (n v s x : ℕ) (d order : List ℕ) (k : ℕ) (h : Queued 
 
   pub queue-top : ((i : ℕ) → i < k → getD d (getD order i 0) 0 ≤ x) → (i : ℕ) → i < k + 1 → getD (set d s x) (getD (set order k s) i 0) 0 ≤ x
   queue-top top i l = by-cases (ℕ-discrete i k) (λ e. rw e (omega (arith, last-far))) (λ e. let b : i < k = omega arith in omega (arith, same-far i b, top i b))
+
+-- with n found, each was
+pub queue-full : (S : Shape) (n v : ℕ) (d order : List ℕ) (k : ℕ) → Queued S n v d order k → n ≤ k → (x : ℕ) → x < n → getD d x 0 < 512
+queue-full S n v d order k h all x b =
+    by-cases (ℕ-discrete (getD d x 0) 512) (λ e. absurd (omega (arith, queue-room S n v x 0 d order k h b e (omega arith)))) (λ e. omega (arith, h .near .low x))
 
 -- the rules into t from left on were looked at, beginning with the distances d₀ and the queue order₀ of k₀
 pub record Looking (S : Shape) (n v t x : ℕ) (d₀ order₀ : List ℕ) (k₀ : ℕ) (d order : List ℕ) (k left : ℕ) : Type 0 where
@@ -137,23 +166,45 @@ module _ (S : Shape) (n v t x : ℕ) (d₀ order₀ : List ℕ) (k₀ : ℕ) (re
         more = omega arith;
       }
 
-  -- rule r, from s, is looked at; the next one is below p
-  module _ (d order : List ℕ) (k left r s p : ℕ) (h : Looking S n v t x d₀ order₀ k₀ d order k left) (is-rule : r < S.rules) (into : S.target r ≡ t) (from : s ≡ S.source r)
-      (below : s < n) (next : (q : ℕ) → q < r → S.target q ≡ t → q < p) where
-    pub looking-room : getD d s 0 ≡ 512 → k < 256
-    looking-room e = omega (arith, h .queued .room, queue-room S n v s x d order k (h .queued) below e (ready .low))
+  -- what was found is at most x away
+  within : (d order : List ℕ) (k left : ℕ) → Looking S n v t x d₀ order₀ k₀ d order k left → (y : ℕ) → y < n → getD d y 0 < 512 → getD d y 0 ≤ x
+  within d order k left h y b l = let i = h .queued .listed y (omega (arith, h .queued .room)) l in omega (arith, ap (λ z. getD d z 0) (i .2), h .top (i .0) (i .1))
 
+  -- ALL WERE FOUND: the rules that are left show nothing new
+  pub looking-full : Fits S n → (d order : List ℕ) (k left : ℕ) → Looking S n v t x d₀ order₀ k₀ d order k left → n ≤ k → Looking S n v t x d₀ order₀ k₀ d order k 0
+  looking-full fits d order k left h all =
+      record {
+        queued = h .queued;
+        top = h .top;
+        seen = λ r b e l. within d order k left h (S.source r) (fits r b .0) (queue-full S n v d order k (h .queued) all (S.source r) (fits r b .0));
+        lower = h .lower;
+        known = h .known;
+        before = h .before;
+        more = h .more;
+      }
+
+  -- rule r, from s, is looked at; the next one is below p
+  module _ (d order : List ℕ) (k left r s p : ℕ) (h : Looking S n v t x d₀ order₀ k₀ d order k left) (more : k < n) (is-rule : r < S.rules) (into : S.target r ≡ t) (from : s ≡ S.source r)
+      (below : s < n) (next : (q : ℕ) → q < r → S.target q ≡ t → q < p) where
     seen-known : getD d s 0 < 512 → (q : ℕ) → q < S.rules → S.target q ≡ t → p ≤ q → left ≡ r + 1 → getD d (S.source q) 0 ≤ x
     seen-known l q b e a up =
         by-cases (decLt q r)
         (λ c. absurd (omega (arith, next q c e)))
         (λ c. by-cases (ℕ-discrete q r)
-        (λ f. rw (f, ← from) (let i = h .queued .listed s (omega (arith, h .queued .room)) l in omega (arith, ap (λ z. getD d z 0) (i .2), h .top (i .0) (i .1))))
+        (λ f. rw (f, ← from) (within d order k left h s below l))
         (λ f. h .seen q b e (omega arith)))
 
-    looking-known : left ≡ r + 1 → getD d s 0 < 512 → Looking S n v t x d₀ order₀ k₀ d order k p
+    looking-known : left ≡ r + 1 → getD d s 0 < 512 → Looking S n v t x d₀ order₀ k₀ d (set order k s) k p
     looking-known up l =
-        record { queued = h .queued; top = h .top; seen = λ q b e a. seen-known l q b e a up; lower = h .lower; known = h .known; before = h .before; more = h .more }
+        record {
+          queued = queue-past order k s S n v d (h .queued) more below;
+          top = λ i b. rw (kept order k s i b) (h .top i b);
+          seen = λ q b e a. seen-known l q b e a up;
+          lower = h .lower;
+          known = h .known;
+          before = λ i b. kept order k s i (omega (arith, h .more)) ∙ h .before i b;
+          more = h .more;
+        }
 
     looking-new : left ≡ r + 1 → getD d s 0 ≡ 512 → Looking S n v t x d₀ order₀ k₀ (set d s x) (set order k s) (k + 1) p
     looking-new up new =
@@ -163,7 +214,7 @@ module _ (S : Shape) (n v t x : ℕ) (d₀ order₀ : List ℕ) (k₀ : ℕ) (re
           seen = seen;
           lower = lower;
           known = λ y l. other S n v s x d order k (h .queued) below new (ready .low) y (λ e. omega (arith, new, h .known y l, ap (λ z. getD d z 0) e)) ∙ h .known y l;
-          before = λ i l. kept S n v s x d order k (h .queued) below new (ready .low) i (omega (arith, h .more)) ∙ h .before i l;
+          before = λ i l. kept order k s i (omega (arith, h .more)) ∙ h .before i l;
           more = omega (arith, h .more);
         }
       where
@@ -191,8 +242,8 @@ module _ (S : Shape) (n v t x : ℕ) (d₀ order₀ : List ℕ) (k₀ : ℕ) (re
     pub looking-next : left ≡ r + 1 → (d′ order′ : List ℕ) (k′ : ℕ) → Noted s x d d′ order order′ k k′ → Looking S n v t x d₀ order₀ k₀ d′ order′ k′ p
     looking-next up d′ order′ k′ n =
         by-cases (ℕ-discrete (getD d s 0) 512)
-        (λ e. let c = n .new e in rw (c .0, c .1, c .2) (looking-new up e))
-        (λ e. let l : getD d s 0 < 512 = omega (arith, h .queued .near .low s) in let c = n .known l in rw (c .0, c .1, c .2) (looking-known up l))
+        (λ e. let c = n .new e in rw (c .0, n .put, c .1) (looking-new up e))
+        (λ e. let l : getD d s 0 < 512 = omega (arith, h .queued .near .low s) in let c = n .known l in rw (c .0, n .put, c .1) (looking-known up l))
 
 -- where the loop over the queue is: the rules into v, and into the first done places of the queue, were looked at
 pub record Spreading (S : Shape) (n v : ℕ) (d order : List ℕ) (done k : ℕ) : Type 0 where
@@ -281,16 +332,9 @@ module _ (S : Shape) (n v : ℕ) where
           now : x ≡ getD d′ (getD order′ done 0) 0 + 1
           now = omega (arith, far-t, same done more)
 
-    -- every transition was found
-    full : n ≤ k → (x : ℕ) → x < n → getD d x 0 < 512
-    full all x b =
-        by-cases (ℕ-discrete (getD d x 0) 512)
-        (λ e. absurd (omega (arith, queue-room S n v x 0 d order k (h .queued) b e (omega arith))))
-        (λ e. omega (arith, h .queued .near .low x))
-
     -- EVERY RULE WAS LOOKED AT, or shows nothing new: among what was found, nothing is more than one farther than what still waits
     pub spreading-ends : Fits S n → (k ≤ done) ⊎ (n ≤ k) → Sought S n v d k
-    spreading-ends fits over = record { near = h .queued .near; settled = settled; all = full }
+    spreading-ends fits over = record { near = h .queued .near; settled = settled; all = queue-full S n v d order k (h .queued) }
       where
         listed : (x : ℕ) → x < n → getD d x 0 < 512 → (i : ℕ) × (i < k) × (getD order i 0 ≡ x)
         listed x b l = h .queued .listed x (omega (arith, h .queued .room)) l
@@ -299,7 +343,7 @@ module _ (S : Shape) (n v : ℕ) where
         waits : (r j : ℕ) → r < S.rules → done ≤ j → j < k → getD d (S.source r) 0 ≤ getD d (getD order j 0) 0 + 1
         waits r j b a l =
             let all : n ≤ k = ⊎-elim (λ (e : k ≤ done). omega arith) (λ (e : n ≤ k). e) over in
-            let i = listed (S.source r) (fits r b .0) (full all (S.source r) (fits r b .0)) in
+            let i = listed (S.source r) (fits r b .0) (queue-full S n v d order k (h .queued) all (S.source r) (fits r b .0)) in
             omega (arith, h .close (i .0) j (i .1) a l, ap (λ z. getD d z 0) (i .2))
 
         settled : Settled S v d

@@ -155,21 +155,33 @@ fn away(t: usize, v: usize, d: u16) -> usize
     wide(d)
 }
 
-// Transition s is d away, unless its distance was found before; a new one joins the queue.
-fn note(s: usize, d: usize, count: usize, dist: &mut [u16; 256], order: &mut [u16; 256]) -> usize
-    requires { ⌜ (s < 256) × (d < 512) × (getD (now dist) s 0 ≤ 512) × (getD (now dist) s 0 ≡ 512 → count < 256) ⌝ }
-    ensures { λ r. ⌜ Noted s d (now (dist .entry)) (now (dist .exit)) (now (order .entry)) (now (order .exit)) count r ⌝ }
+// The distance found before, `had`, else d. This and the next are chosen without a branch, which the machine would often guess wrongly.
+fn earlier(had: u16, d: u16) -> u16
+    ensures { λ r. ⌜ (had < 512 → r ≡ had) × (had ≡ 512 → r ≡ d) ⌝ }
 {
-    if wide(dist[s]) < FAR {
-        return count;
-    }
-    dist[s] = narrow(d);
-    order[count] = narrow(s);
-    count + 1
+    if wide(had) < FAR { had } else { d }
 }
 
-// The source of each rule into t is d away, unless its distance was found before. The rules are linked by their targets. (target, len, n and v are there for
-// the contract alone.)
+// 0 where it was found before, else 1.
+fn fresh(had: u16) -> usize
+    ensures { λ r. ⌜ (r ≤ 1) × (had < 512 → r ≡ 0) × (had ≡ 512 → r ≡ 1) ⌝ }
+{
+    if wide(had) < FAR { 0 } else { 1 }
+}
+
+// Transition s is d away, unless its distance was found before; it is written at the end of the queue, which moves on past a new one.
+fn note(s: usize, d: usize, count: usize, dist: &mut [u16; 256], order: &mut [u16; 256]) -> usize
+    requires { ⌜ (s < 256) × (d < 512) × (count < 256) ⌝ }
+    ensures { λ r. ⌜ Noted s d (now (dist .entry)) (now (dist .exit)) (now (order .entry)) (now (order .exit)) count r ⌝ }
+{
+    let had = dist[s];
+    dist[s] = earlier(had, narrow(d));
+    order[count] = narrow(s);
+    count + fresh(had)
+}
+
+// The source of each rule into t is d away, unless its distance was found before. With all n found it stops, so that there is room for each that is written.
+// The rules are linked by their targets. (target, len and v are there for the contract alone.)
 fn look_back(
     source: &[u16; 2048],
     target: &[u16; 2048],
@@ -191,6 +203,9 @@ fn look_back(
     let mut found = count;
     let mut left = wide(head[t]);
     while 0 < left {
+        if n <= found {
+            return found;
+        }
         let r = left - 1;
         let s = wide(source[r]);
         found = note(s, d, found, dist, order);

@@ -1,25 +1,22 @@
 -- `loops::note` meets its contract: a transition's distance is put down unless it was found before.
 -- Assumes nothing.
-use mathlib.Core.Path.{refl}
-use native.Mathlib.Omega.{arith}
+use mathlib.Core.Path.{_∙_}
 use borrow.Author.Needs.{needs}
+use Rattle.loops.specs.Queue.{noted}
 use Rattle.loops.proofs.note.Statement.{statement}
 use Rattle.loops.proofs.note.Tie as tie
 
-mul-wide : tie.Need-mul-wide
-mul-wide c = search needs
+mul-had : tie.Need-mul-had
+mul-had c = search needs
 
-element-copy-out-wide : tie.Need-element-copy-out-wide
-element-copy-out-wide c = search needs
-
-wide-requires : tie.Need-wide-requires
-wide-requires c κs = search needs
-
-returns : tie.Need-returns
-returns c = record { known = λ l. (refl, refl, refl); new = λ e. absurd (omega arith) }
+element-copy-out-had : tie.Need-element-copy-out-had
+element-copy-out-had c = search needs
 
 narrow-requires : tie.Need-narrow-requires
 narrow-requires c κs = search needs
+
+earlier-requires : tie.Need-earlier-requires
+earlier-requires c κs = search needs
 
 mul-dist : tie.Need-mul-dist
 mul-dist c = search needs
@@ -31,30 +28,37 @@ narrow-requires-2 : tie.Need-narrow-requires-2
 narrow-requires-2 c κs = search needs
 
 mul-order : tie.Need-mul-order
-mul-order c = omega (arith, c .before .before .before .before .before .pre .3 (omega arith))
+mul-order c = search needs
 
 element-write-order : tie.Need-element-write-order
-element-write-order c = omega (arith, c .before .before .before .before .before .pre .3 (omega arith))
+element-write-order c = search needs
+
+fresh-requires : tie.Need-fresh-requires
+fresh-requires c κs = search needs
 
 add-result : tie.Need-add-result
-add-result c = omega (arith, c .before .before .before .before .before .pre .3 (omega arith))
+add-result c = search needs
 
-returns-2 : tie.Need-returns-2
-returns-2 c = rw (c .before .narrow .ensures, c .narrow2 .ensures) (record { known = λ l. absurd (omega arith); new = λ e. (refl, refl, refl) })
+returns : tie.Need-returns
+returns c =
+    let near = c .before .before in
+    let d = near .earlier .ensures in
+    let k = c .fresh .ensures in
+    rw (c .before .narrow2 .ensures) (noted _ _ _ _ _ _ _ (d .0, λ e. d .1 e ∙ near .before .narrow .ensures) (k .1, k .2))
 
 pub note-spec : {M : Type 1} → statement M
 note-spec =
     tie.close
     (tie.spec
-    mul-wide
-    element-copy-out-wide
-    wide-requires
-    returns
+    mul-had
+    element-copy-out-had
     narrow-requires
+    earlier-requires
     mul-dist
     element-write-dist
     narrow-requires-2
     mul-order
     element-write-order
+    fresh-requires
     add-result
-    returns-2)
+    returns)
