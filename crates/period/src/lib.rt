@@ -3,9 +3,9 @@ ghost use mathlib.Core.Path.{_≡_};
 ghost use mathlib.Core.List.{_++_};
 ghost use Prim.Native.Nat.{ℕ, _≤_};
 ghost use lib.ListN.{length, take, drop};
-ghost use Rattle.engine.specs.Rate.{RateOf};
 ghost use Rattle.period.specs.Promise.{outcome, refusedAnalysis, AnalysisOf};
-use engine::Rated;
+// The two ends of a transition's rate: the engine's call as it is.
+pub use engine::rate;
 use table::Table;
 
 // One end: its ratio in lowest terms, and the length of its loop.
@@ -111,11 +111,4 @@ pub fn analyse(t: Table, schedule: &mut [u64], low: &mut [u32], high: &mut [u32]
         low: below,
         high: above,
     }
-}
-
-// The two ends of a transition's rate: the largest quotient over the loops from which it can be reached; or refused 3, 10, 5, 6 or 11, in this order.
-pub fn rate(t: Table, v: usize) -> Rated
-    ensures { λ r. ⌜ RateOf t v r ⌝ }
-{
-    engine::rate(t, v)
 }
