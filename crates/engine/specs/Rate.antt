@@ -17,23 +17,22 @@ use Prim.Native.Nat.{ℕ, _≤_, _<_, _^_}
 use native.Mathlib.Omega.{arith}
 use native.Mathlib.Decide.{decLt}
 use lib.ListN.{getD, take}
-use Rattle.model.specs.Shape.{Shape}
+use Rattle.model.specs.Shape.{Shape, Fits}
 use Rattle.model.specs.Loop.{SomeLoop, NoLoop, Live}
 use Rattle.model.specs.Knot.{Knot}
 use Rattle.model.specs.Ratio.{Lowest}
 use Rattle.model.specs.Filling.{Ranges, Filling}
 use Rattle.model.specs.Wide.{WideSum}
 use Rattle.model.specs.Period.{Period}
-use Rattle.model.specs.Ends.{LowEnd, HighEnd}
 use Rattle.model.specs.Rate.{SomeLoopTo, NoLoopTo, Rate, RateRange, ExactRate, Rates}
 use Rattle.theory.specs.Filling.{Proper, ranges-proper}
 use Rattle.theory.specs.Knot.{knot-unique, knot-not-live, knot-or-live, loop-or-none, first-knot}
 use Rattle.theory.specs.Schedule.{TightRule}
-use Rattle.theory.specs.Ends.{low-is, high-is}
 use Rattle.theory.specs.Climb.{climbed-period, climbed-none}
-use Rattle.theory.specs.Same.{period-same, low-same, high-same}
+use Rattle.theory.specs.Same.{period-same}
 use Rattle.theory.specs.Wide.{period-limits, small-not-wide}
-use Rattle.theory.specs.Rate.{steered, Steers, steering, rate-steered, low-plain, high-plain, live-steered, none-plain, some-plain, fits-steered, rates-unique, rates-exist}
+use Rattle.theory.specs.Rate.{steered, steering, rate-steered, rate-plain, none-plain, some-plain, fits-steered, low-rate-is, high-rate-is, rates-unique, rates-exist}
+use Rattle.theory.specs.Gather.{Gathers, none-gathered, rate-gathered}
 use Rattle.table.specs.declared.Table.{Table}
 use Rattle.table.specs.Limits.{maxOffset, maxDelay}
 use Rattle.table.specs.Form.{unusedRule}
@@ -191,11 +190,21 @@ pub record MetRate (p q P Q : ℕ) (r : Rated) : Type 0 where
   pub meets : Meets p q P Q exact
   pub result : r ≡ answeredRate (record { lowP = p; lowQ = q; highP = P; highQ = Q; exact = exact })
 
--- both sides: refused 6 where there is no loop, else the two ends
+-- a period in lowest terms
+abbrev pub InLowest : Shape → (ℕ → ℕ) → ℕ → ℕ → Type 0
+InLowest S D p q = Period S D p q × Lowest p q
+
+-- both sides: refused 6 where there is no loop, else the periods with the least and with the greatest delays
 abbrev pub RatedIn : Shape → Ranges → Rated → Type 0
 RatedIn S K r =
     (NoLoop S × (r ≡ refusedRate 6 0))
-    ⊎ ((a : RateRange) × LowEnd S K (a .lowP) (a .lowQ) × HighEnd S K (a .highP) (a .highQ) × ExactRate a × (r ≡ answeredRate a))
+    ⊎ ((a : RateRange) × InLowest S K.least (a .lowP) (a .lowQ) × InLowest S K.greatest (a .highP) (a .highQ) × ExactRate a × (r ≡ answeredRate a))
+
+-- the same for the loops that reach v
+abbrev pub RatedTo : Shape → Ranges → ℕ → Rated → Type 0
+RatedTo S K v r =
+    (NoLoopTo S v × (r ≡ refusedRate 6 0))
+    ⊎ ((a : RateRange) × (Rate S K.least v (a .lowP) (a .lowQ) × Lowest (a .lowP) (a .lowQ)) × (Rate S K.greatest v (a .highP) (a .highQ) × Lowest (a .highP) (a .highQ)) × ExactRate a × (r ≡ answeredRate a))
 
 module _ (S : Shape) (D : ℕ → ℕ) (P Q : ℕ) (X : List ℕ) (live : Live S) (c : Reached S D P Q X) where
   pub paced : SomeLoop S → Paced S D true P Q
@@ -219,10 +228,29 @@ met-exact p q P Q false m = inr (m .1 refl, refl)
 pub ends-none : (S : Shape) (K : Ranges) (p q : ℕ) (r : Rated) (f : Bool) → Paced S K.least f p q → f ≡ false → r ≡ refusedRate 6 0 → RatedIn S K r
 ends-none S K p q r f x z e = inl (x .none z, e)
 
-pub ends-met : (S : Shape) (K : Ranges) → Proper S K → (p q P Q : ℕ) (f g : Bool) (r : Rated) → Paced S K.least f p q → f ≡ true → Paced S K.greatest g P Q → MetRate p q P Q r → RatedIn S K r
-ends-met S K proper p q P Q f true r x z y m =
-    inr (record { lowP = p; lowQ = q; highP = P; highQ = Q; exact = m .exact }, low-is S K proper p q (x .period z) (x .lowest z), high-is S K proper P Q (y .period refl) (y .lowest refl), met-exact p q P Q (m .exact) (m .meets), m .result)
-ends-met S K proper p q P Q f false r x z y m = let l = x .period z in absurd (y .none refl (l .at) (l .loop) (l .is-loop))
+pub ends-met : (S : Shape) (K : Ranges) (p q P Q : ℕ) (f g : Bool) (r : Rated) → Paced S K.least f p q → f ≡ true → Paced S K.greatest g P Q → MetRate p q P Q r → RatedIn S K r
+ends-met S K p q P Q f true r x z y m =
+    inr (record { lowP = p; lowQ = q; highP = P; highQ = Q; exact = m .exact }, (x .period z, x .lowest z), (y .period refl, y .lowest refl), met-exact p q P Q (m .exact) (m .meets), m .result)
+ends-met S K p q P Q f false r x z y m = let l = x .period z in absurd (y .none refl (l .at) (l .loop) (l .is-loop))
+
+-- THE ENDS OF THE RULES WHOSE TARGETS REACH v ARE THE RATE'S
+pub rated-to : (S T : Shape) (K L : Ranges) (v : ℕ) (f : ℕ → ℕ) → Gathers S T v f → ((j : ℕ) → j < T.rules → L.least j ≡ K.least (f j)) → ((j : ℕ) → j < T.rules → L.greatest j ≡ K.greatest (f j))
+    → (r : Rated) → RatedIn T L r → RatedTo S K v r
+rated-to S T K L v f g low high r (inl x) = inl (none-gathered S T v f g (x .0), x .1)
+rated-to S T K L v f g low high r (inr (a, p, q, meet, e)) =
+    inr (
+      a,
+      (rate-gathered S T v f g K.least _ _ (period-same T L.least (λ j. K.least (f j)) low _ _ (p .0)), p .1),
+      (rate-gathered S T v f g K.greatest _ _ (period-same T L.greatest (λ j. K.greatest (f j)) high _ _ (q .0)), q .1),
+      meet,
+      e,
+    )
+
+-- delays that agree on the rules have the same rate
+rate-same : (S : Shape) (n : ℕ) → Fits S n → (D E : ℕ → ℕ) → ((r : ℕ) → r < S.rules → D r ≡ E r) → (v P Q : ℕ) → Rate S D v P Q → Rate S E v P Q
+rate-same S n fits D E same v P Q x =
+    let (f, s) = steering S n fits v in
+    rate-plain S v f s E P Q (period-same (steered S f) D E same P Q (rate-steered S v f s D P Q x))
 
 module _ (t : Table) (w : Within t) (v : ℕ) (b : v < t .n) (s g o l h : List ℕ) (k : Bool) (c : Laid t (t .m) s g o l h k)
     (len at : ℕ) (rules : List ℕ) (zero : FoundFirst (shape s g o (t .m)) (λ i. getD o i 0 ≡ 0) (t .n) len at rules) where
@@ -230,32 +258,21 @@ module _ (t : Table) (w : Within t) (v : ℕ) (b : v < t .n) (s g o l h : List �
   rate-knotted r some e =
       record { verdict = knot-at at; judged = (w, b, subst (λ (S : Shape). Knot S at) (laid-shape t s g o l h k c) (first-knot (shape s g o (t .m)) at (take len rules) (zero .some some))); result = e }
 
-  -- THE ENDS OF THE STEERED RULES ARE THE RATE'S
-  module _ (none : len ≤ 0) (f : List ℕ) (steers : Steers (shape s g o (t .m)) v (λ r. getD f r 0)) where
-    live : Live (shape s g o (t .m))
-    live = ends-live zero none
+  -- what is said of the columns is said of the table
+  module _ (none : len ≤ 0) where
+    pub columns-live : Live (shape s g o (t .m))
+    columns-live = ends-live zero none
 
-    pub live-toward : Live (shape f g o (t .m))
-    live-toward = live-steered (shape s g o (t .m)) v (λ r. getD f r 0) steers live
-
-    flat : (r : Rated) → NoLoop (shape f g o (t .m)) → r ≡ refusedRate 6 0 → RateOf t v r
-    flat r no-loop e =
-        let z = subst (λ (S : Shape). Live S × NoLoopTo S v) (laid-shape t s g o l h k c) (live, none-plain (shape s g o (t .m)) v (λ r. getD f r 0) steers no-loop) in
-        record { verdict = unreached; judged = (w, b, z .0, z .1); result = e }
-
-    found : (r : Rated) (a : RateRange) → LowEnd (shape f g o (t .m)) (rangesIn l h) (a .lowP) (a .lowQ) → HighEnd (shape f g o (t .m)) (rangesIn l h) (a .highP) (a .highQ) → ExactRate a → r ≡ answeredRate a
-        → RateOf t v r
-    found r a low high meet e =
-        let S = shape s g o (t .m) in
-        let y : Rates (shape s g o (t .m)) (rangesOf t) v a =
+    pub rate-ends : (r : Rated) → RatedTo (shape s g o (t .m)) (rangesIn l h) v r → RateOf t v r
+    rate-ends r (inl x) =
+        let z = subst (λ (S : Shape). Live S × NoLoopTo S v) (laid-shape t s g o l h k c) (columns-live, x .0) in
+        record { verdict = unreached; judged = (w, b, z .0, z .1); result = x .1 }
+    rate-ends r (inr (a, low, high, meet, e)) =
+        let z = subst (λ (S : Shape). Live S × Rate S (rangesIn l h .least) v (a .lowP) (a .lowQ) × Rate S (rangesIn l h .greatest) v (a .highP) (a .highQ)) (laid-shape t s g o l h k c) (columns-live, low .0, high .0) in
+        let rates : Rates (shapeOf t) (rangesOf t) v a =
         record {
-          low = low-plain S v (λ r. getD f r 0) steers (rangesOf t) _ _ (low-same (shape f g o (t .m)) (rangesIn l h) (rangesOf t) (laid-least t s g o l h k c) (laid-greatest t s g o l h k c) _ _ low);
-          high = high-plain S v (λ r. getD f r 0) steers (rangesOf t) _ _ (high-same (shape f g o (t .m)) (rangesIn l h) (rangesOf t) (laid-least t s g o l h k c) (laid-greatest t s g o l h k c) _ _ high);
+          low = low-rate-is (shapeOf t) (t .n) (within-fits t w) v (rangesOf t) (proper t) _ _ (rate-same (shapeOf t) (t .n) (within-fits t w) _ _ (laid-least t s g o l h k c) v _ _ (z .1)) (low .1);
+          high = high-rate-is (shapeOf t) (t .n) (within-fits t w) v (rangesOf t) (proper t) _ _ (rate-same (shapeOf t) (t .n) (within-fits t w) _ _ (laid-greatest t s g o l h k c) v _ _ (z .2)) (high .1);
           meet = meet;
         } in
-        let z = subst (λ (S : Shape). Live S × Rates S (rangesOf t) v a) (laid-shape t s g o l h k c) (live, y) in
-        record { verdict = rated a; judged = (w, b, z .0, z .1, rate-never-wide t w v b a (z .1)); result = e }
-
-    pub rate-ends : (r : Rated) → RatedIn (shape f g o (t .m)) (rangesIn l h) r → RateOf t v r
-    rate-ends r (inl x) = flat r (x .0) (x .1)
-    rate-ends r (inr x) = found r (x .0) (x .1) (x .2) (x .3) (x .4)
+        record { verdict = rated a; judged = (w, b, z .0, rates, rate-never-wide t w v b a rates); result = e }

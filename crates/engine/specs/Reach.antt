@@ -1,24 +1,30 @@
--- The rules steered toward v, by the distances to it.
+-- The rules whose targets reach v, gathered by the distances to it.
 --
---   limits-plain                 the limits, whatever the offsets
---   StartsAt source t v d x      == x is the rule's source where its target t is v or has a distance below 512 to it, and else v
---   Steered source target m v dist from   == so it is for each rule; steered-next: the loop that makes them
---   reaches, reaches-not         the transitions with a distance, and v, reach v; no other does
---   steers, steers-as-they-are, limits-steered   so they steer the rules, and are within the limits; where every transition reaches v the sources do as they are
-use mathlib.Core.Path.{_≡_, refl, sym, subst}
+--   limits-plain              the limits, whatever the offsets
+--   Near target v dist r      == the target of rule r is v, or has a distance below 512 to it
+--   Counts t v d k            == k is 1 where a rule into t is one of them, else 0; counts-most
+--   Filled column list len xs == xs has room for all rules, and its first len places hold the column's entries for the rules of the list
+--   Taken .. i .. len         == the columns hold, in their first len places, those of the first i rules that are near
+--   taken-none, taken-next    the loop that gathers them
+--   reaches, reaches-not      the transitions with a distance, and v, reach v; no other does
+--   gathers, gathers-as-they-are   so they are the rules whose targets reach v; where every transition reaches v, all are
+--   limits-gathered, ordered-gathered   they are within the limits
+use mathlib.Core.Path.{_≡_, refl, sym, ap, _∙_, subst}
+use mathlib.Core.Bool.{Bool}
 use mathlib.Core.Logic.{_⊎_, inl, inr, ⊎-elim, by-cases, _≢_}
 use mathlib.Core.List.{List, [], _∷_}
 use Prim.Native.Nat.{ℕ, suc, _+_, _≤_, _<_}
 use native.Mathlib.Omega.{arith}
-use native.Mathlib.Decide.{ℕ-discrete}
-use lib.ListN.{length, getD, set}
+use native.Mathlib.Decide.{ℕ-discrete, decLt}
+use lib.ListN.{length, getD, set, replicate, length-set, length-replicate}
 use lib.Seq.{getD-set-same, getD-set-other}
 use Rattle.model.specs.Walk.{Walk}
 use Rattle.model.specs.Rate.{Reaches}
 use Rattle.theory.specs.Walk.{path-short, LoopAbove, Shortened, shorten}
-use Rattle.theory.specs.Rate.{reach-here, Steers, fits-steered}
-use Rattle.columns.specs.Columns.{shape, Limits}
-use Rattle.loops.specs.Listed.{plain}
+use Rattle.theory.specs.Rate.{reach-here}
+use Rattle.theory.specs.Gather.{Reaching, Gathers, gathers-all}
+use Rattle.columns.specs.Columns.{shape, Limits, Ordered}
+use Rattle.loops.specs.Listed.{plain, Listed, listed-none, listed-skip, listed-add, Gathered}
 use Rattle.loops.specs.Near.{near-least}
 use Rattle.loops.specs.Queue.{Sought}
 
@@ -26,18 +32,100 @@ pub limits-plain : (source target offset : List ℕ) (m n : ℕ) → Limits sour
 limits-plain source target offset m n l =
     record { few-rules = l .few-rules; some-transition = l .some-transition; few-transitions = l .few-transitions; fits = l .fits; small-offsets = λ r b. omega arith }
 
-abbrev pub StartsAt : ℕ → ℕ → ℕ → ℕ → ℕ → Type 0
-StartsAt source t v d x = (((t ≡ v) ⊎ (d < 512)) × (x ≡ source)) ⊎ ((t ≢ v) × (512 ≤ d) × (x ≡ v))
+abbrev pub Near : List ℕ → ℕ → List ℕ → ℕ → Type 0
+Near target v dist r = (getD target r 0 ≡ v) ⊎ (getD dist (getD target r 0) 0 < 512)
 
-abbrev pub Steered : List ℕ → List ℕ → ℕ → ℕ → List ℕ → List ℕ → Type 0
-Steered source target m v dist from = (r : ℕ) → r < m → StartsAt (getD source r 0) (getD target r 0) v (getD dist (getD target r 0) 0) (getD from r 0)
+abbrev pub Counts : ℕ → ℕ → ℕ → ℕ → Type 0
+Counts t v d k = (((t ≡ v) ⊎ (d < 512)) × (k ≡ 1)) ⊎ ((t ≢ v) × (512 ≤ d) × (k ≡ 0))
 
-pub steered-next : (source target : List ℕ) (v : ℕ) (dist from : List ℕ) (i t x : ℕ) → Steered source target i v dist from → i < length from → t ≡ getD target i 0
-    → StartsAt (getD source i 0) t v (getD dist t 0) x → Steered source target (i + 1) v dist (set from i x)
-steered-next source target v dist from i t x h room et is r b =
-    by-cases (ℕ-discrete r i)
-    (λ e. rw (e, getD-set-same from i x 0 room, ← et) is)
-    (λ d. rw (getD-set-other from i r x 0 d) (h r (omega arith)))
+pub counts-most : (t v d k : ℕ) → Counts t v d k → k ≤ 1
+counts-most t v d k (inl c) = omega (arith, c .1)
+counts-most t v d k (inr c) = omega (arith, c .2)
+
+-- ------------------------------------------------------------------------------------------------------------------------------ the loop that gathers
+
+abbrev pub Filled : List ℕ → List ℕ → ℕ → List ℕ → Type 0
+Filled column list len xs = (length xs ≡ 2048) × Gathered column list len xs
+
+filled-past : (column list xs : List ℕ) (len x : ℕ) → Filled column list len xs → Filled column list len (set xs len x)
+filled-past column list xs len x h = (simp length-set (h .0), λ j l. getD-set-other xs len j x 0 (λ e. omega arith) ∙ h .1 j l)
+
+filled-next : (column list xs : List ℕ) (len i : ℕ) → Filled column list len xs → length list ≡ 2048 → len < 2048
+    → Filled column (set list len i) (len + 1) (set xs len (getD column i 0))
+filled-next column list xs len i h room b = (
+  simp length-set (h .0),
+  λ j l. by-cases (ℕ-discrete j len)
+      (λ e. rw (e, getD-set-same xs len (getD column i 0) 0 (omega (arith, h .0)), getD-set-same list len i 0 (omega arith)) refl)
+      (λ d. rw (getD-set-other xs len j (getD column i 0) 0 d, getD-set-other list len j i 0 d) (h .1 j (omega arith))),
+)
+
+pub record Taken (source target offset least greatest : List ℕ) (v : ℕ) (dist : List ℕ) (i : ℕ) (from to off low high : List ℕ) (len : ℕ) : Type 0 where
+  pub list : List ℕ
+  pub room : length list ≡ 2048
+  pub listed : Listed (Near target v dist) list len i
+  pub sources : Filled source list len from
+  pub targets : Filled target list len to
+  pub offsets : Filled offset list len off
+  pub leasts : Filled least list len low
+  pub greatests : Filled greatest list len high
+
+module _ (source target offset least greatest : List ℕ) (v : ℕ) (dist : List ℕ) where
+  nothing : (column : List ℕ) → Filled column (replicate 2048 0) 0 (replicate 2048 0)
+  nothing column = (length-replicate {A = ℕ} 2048 0, λ j l. absurd (omega arith))
+
+  pub taken-none : Taken source target offset least greatest v dist 0 (replicate 2048 0) (replicate 2048 0) (replicate 2048 0) (replicate 2048 0) (replicate 2048 0) 0
+  taken-none =
+      record {
+        list = replicate 2048 0;
+        room = length-replicate {A = ℕ} 2048 0;
+        listed = listed-none (Near target v dist) (replicate 2048 0);
+        sources = nothing source;
+        targets = nothing target;
+        offsets = nothing offset;
+        leasts = nothing least;
+        greatests = nothing greatest;
+      }
+
+  -- rule i is written at the end of each column, and counts or not
+  module _ (i : ℕ) (from to off low high : List ℕ) (len : ℕ) (h : Taken source target offset least greatest v dist i from to off low high len) (below : i < 2048) where
+    near-by : (t : ℕ) → t ≡ getD target i 0 → ((t ≡ v) ⊎ (getD dist t 0 < 512)) → Near target v dist i
+    near-by t e n = rw e at n
+
+    taken-near : Near target v dist i
+        → Taken source target offset least greatest v dist (i + 1) (set from len (getD source i 0)) (set to len (getD target i 0)) (set off len (getD offset i 0)) (set low len (getD least i 0)) (set high len (getD greatest i 0)) (len + 1)
+    taken-near n =
+        let b : len < 2048 = omega (arith, h .listed .few) in
+        record {
+          list = set (h .list) len i;
+          room = simp length-set (h .room);
+          listed = listed-add (Near target v dist) (h .list) len i (h .listed) n (omega (arith, h .room));
+          sources = filled-next source (h .list) from len i (h .sources) (h .room) b;
+          targets = filled-next target (h .list) to len i (h .targets) (h .room) b;
+          offsets = filled-next offset (h .list) off len i (h .offsets) (h .room) b;
+          leasts = filled-next least (h .list) low len i (h .leasts) (h .room) b;
+          greatests = filled-next greatest (h .list) high len i (h .greatests) (h .room) b;
+        }
+
+    taken-far : ¬ (Near target v dist i)
+        → Taken source target offset least greatest v dist (i + 1) (set from len (getD source i 0)) (set to len (getD target i 0)) (set off len (getD offset i 0)) (set low len (getD least i 0)) (set high len (getD greatest i 0)) len
+    taken-far n =
+        record {
+          list = h .list;
+          room = h .room;
+          listed = listed-skip (Near target v dist) (h .list) len i (h .listed) n;
+          sources = filled-past source (h .list) from len _ (h .sources);
+          targets = filled-past target (h .list) to len _ (h .targets);
+          offsets = filled-past offset (h .list) off len _ (h .offsets);
+          leasts = filled-past least (h .list) low len _ (h .leasts);
+          greatests = filled-past greatest (h .list) high len _ (h .greatests);
+        }
+
+    pub taken-next : (t k : ℕ) → t ≡ getD target i 0 → Counts t v (getD dist t 0) k
+        → Taken source target offset least greatest v dist (i + 1) (set from len (getD source i 0)) (set to len (getD target i 0)) (set off len (getD offset i 0)) (set low len (getD least i 0)) (set high len (getD greatest i 0)) (len + k)
+    taken-next t k e (inl c) = rw (c .1) (taken-near (near-by t e (c .0)))
+    taken-next t k e (inr c) =
+        let z : len + k ≡ len = omega (arith, c .2) in
+        rw z (taken-far (⊎-elim (λ a. c .0 (e ∙ a)) (λ a. omega (arith, c .1, a, ap (λ y. getD dist y 0) e))))
 
 -- walks do not depend on offsets
 walk-offsets : (source target o o′ : List ℕ) (m u w : ℕ) (rs : List ℕ) → Walk (shape source target o m) u w rs → Walk (shape source target o′ m) u w rs
@@ -61,25 +149,53 @@ module _ (source target : List ℕ) (m n v : ℕ) (limits : Limits source target
       none [] e c = d e
       none (r ∷ rs) w c = omega (arith, near-least (shape source target offset m) v dist (far .settled) t (r ∷ rs) (omega arith) w, limits .few-transitions)
 
-  -- THE CODE'S SOURCES STEER THE RULES
-  pub steers : (from : List ℕ) → Steered source target m v dist from → Steers (shape source target offset m) v (λ r. getD from r 0)
-  steers from h r l =
-      let b = limits .fits r l .1 in
+  near-reaches : (r : ℕ) → r < m → Near target v dist r → Reaching (shape source target offset m) v r
+  near-reaches r b =
       ⊎-elim
-      (λ k. inl (⊎-elim (λ e. subst (λ t. Reaches (shape source target offset m) t v) (sym e) (reach-here (shape source target offset m) v)) (reaches (getD target r 0) b) (k .0), k .1))
-      (λ k. inr (reaches-not (getD target r 0) b (k .0) (k .1), k .2))
-      (h r l)
+      (λ e. subst (λ t. Reaches (shape source target offset m) t v) (sym e) (reach-here (shape source target offset m) v))
+      (reaches (getD target r 0) (limits .fits r b .1))
 
-  -- and so do the rules' own where every transition reaches v
-  pub steers-as-they-are : n ≤ k → Steers (shape source target offset m) v (λ r. getD source r 0)
-  steers-as-they-are all r l = let b = limits .fits r l .1 in inl (reaches (getD target r 0) b (far .all all (getD target r 0) b), refl)
+  reaches-near : (r : ℕ) → r < m → Reaching (shape source target offset m) v r → Near target v dist r
+  reaches-near r b x =
+      by-cases (ℕ-discrete (getD target r 0) v) inl
+      (λ d. by-cases (decLt (getD dist (getD target r 0) 0) 512) inr (λ h. absurd (reaches-not (getD target r 0) (limits .fits r b .1) d (omega arith) x)))
 
-pub limits-steered : (source target offset : List ℕ) (m n v : ℕ) (from : List ℕ) → Limits source target offset m n → v < n → Steers (shape source target offset m) v (λ r. getD from r 0) → Limits from target offset m n
-limits-steered source target offset m n v from limits b h =
-    record {
-      few-rules = limits .few-rules;
-      some-transition = limits .some-transition;
-      few-transitions = limits .few-transitions;
-      fits = fits-steered (shape source target offset m) v (λ r. getD from r 0) h n b (limits .fits);
-      small-offsets = limits .small-offsets;
-    }
+  -- THE GATHERED RULES ARE THOSE WHOSE TARGETS REACH v
+  module _ (least greatest from to off low high : List ℕ) (len : ℕ) (h : Taken source target offset least greatest v dist m from to off low high len) where
+    pub gathers : Gathers (shape source target offset m) (shape from to off len) v (λ j. getD (h .list) j 0)
+    gathers =
+        record {
+          picks = record {
+            is-rule = h .listed .below;
+            kind = λ j b. near-reaches (getD (h .list) j 0) (h .listed .below j b) (h .listed .kind j b);
+            source-is = h .sources .1;
+            target-is = h .targets .1;
+            ascending = h .listed .ascending;
+            all = λ r b x. h .listed .all r b (reaches-near r b x);
+          };
+          offset-is = h .offsets .1;
+        }
+
+  -- all are where every transition reaches v
+  pub gathers-as-they-are : n ≤ k → Gathers (shape source target offset m) (shape source target offset m) v (λ r. r)
+  gathers-as-they-are all = gathers-all (shape source target offset m) v (λ r b. let l = limits .fits r b .1 in reaches (getD target r 0) l (far .all all (getD target r 0) l))
+
+module _ (source target offset least greatest : List ℕ) (v : ℕ) (dist : List ℕ) (m : ℕ) (from to off low high : List ℕ) (len : ℕ) (h : Taken source target offset least greatest v dist m from to off low high len) where
+  pub limits-gathered : (n : ℕ) → Limits source target offset m n → Limits from to off len n
+  limits-gathered n l =
+      record {
+        few-rules = omega (arith, h .listed .few, l .few-rules);
+        some-transition = l .some-transition;
+        few-transitions = l .few-transitions;
+        fits = λ j b. let f = l .fits (getD (h .list) j 0) (h .listed .below j b) in (omega (arith, h .sources .1 j b, f), omega (arith, h .targets .1 j b, f));
+        small-offsets = λ j b. omega (arith, h .offsets .1 j b, l .small-offsets (getD (h .list) j 0) (h .listed .below j b));
+      }
+
+  pub ordered-gathered : (blank : Bool) → Ordered least greatest m blank → Ordered low high len blank
+  ordered-gathered blank o =
+      record {
+        short-least = λ j b. omega (arith, h .leasts .1 j b, o .short-least (getD (h .list) j 0) (h .listed .below j b));
+        short-greatest = λ j b. omega (arith, h .greatests .1 j b, o .short-greatest (getD (h .list) j 0) (h .listed .below j b));
+        in-order = λ j b. omega (arith, h .leasts .1 j b, h .greatests .1 j b, o .in-order (getD (h .list) j 0) (h .listed .below j b));
+        no-blank = λ e j b. h .leasts .1 j b ∙ o .no-blank e (getD (h .list) j 0) (h .listed .below j b) ∙ sym (h .greatests .1 j b);
+      }

@@ -69,7 +69,7 @@ pub struct Rated {
 
 const NAME: u32 = 10;
 
-// The rate of transition v: the two ends of the same rules, steered so that only the loops that reach v are left; or refused 3, 10, 5, 6 or 11, in this order.
+// The rate of transition v: its two ends; or refused 3, 10, 5, 6 or 11, in this order.
 pub fn rate(t: Table, v: usize) -> Rated
     ensures { λ r. ⌜ RateOf t v r ⌝ }
 {
@@ -89,11 +89,10 @@ pub fn rate(t: Table, v: usize) -> Rated
     if 0 < zero.len {
         return ends::unrated(laps::LOOP, zero.at);
     }
-    let steered = reach::toward(&source, &target, t.m, n, v);
     let least = c.least;
     let greatest = c.greatest;
-    ends::ends(
-        &steered,
+    reach::ends_to(
+        &source,
         &target,
         &offset,
         &least,
@@ -101,6 +100,7 @@ pub fn rate(t: Table, v: usize) -> Rated
         c.blank,
         t.m,
         n,
+        v,
     )
 }
 

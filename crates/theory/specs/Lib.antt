@@ -23,4 +23,5 @@ pub mod Answer
 pub mod Same
 pub mod Near
 pub mod Rate
+pub mod Gather
 pub mod Linear

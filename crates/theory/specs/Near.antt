@@ -173,7 +173,7 @@ module _ (A : ℕ → Type 0) (S T : Shape) (f : ℕ → ℕ) (p : Picks A S T f
         );
       }
 
-  placed-loop : (u : ℕ) (rs : List ℕ) (l : KindLoop S A u rs) (t : Places u u rs) → KindLoop T Any u (t .places)
+  pub placed-loop : (u : ℕ) (rs : List ℕ) (l : KindLoop S A u rs) (t : Places u u rs) → KindLoop T Any u (t .places)
   placed-loop u rs l t =
       record {
         is-loop = record {
@@ -184,7 +184,7 @@ module _ (A : ℕ → Type 0) (S T : Shape) (f : ℕ → ℕ) (p : Picks A S T f
         kind = all-any (t .places);
       }
 
-  places-loop : (u : ℕ) (rs : List ℕ) → KindLoop S A u rs → Places u u rs
+  pub places-loop : (u : ℕ) (rs : List ℕ) → KindLoop S A u rs → Places u u rs
   places-loop u rs l = places-of u u rs (l .is-loop .closed) (l .kind)
 
   pub picked-none : ((u : ℕ) (js : List ℕ) → ¬ (Loop T u js)) → (u : ℕ) (rs : List ℕ) → ¬ (KindLoop S A u rs)

@@ -1,8 +1,7 @@
--- `rate` meets its contract: the ends of the steered rules are the rate's (`rate-ends`).
+-- `rate` meets its contract: what is said of the columns is said of the table (`rate-ends`).
 -- Assumes nothing.
 use Rattle.columns.specs.Lay.{judged-outside, judged-within, laid-limits, laid-ordered}
-use Rattle.engine.specs.Reach.{limits-plain, limits-steered}
-use Rattle.engine.specs.Rate.{rate-outside, rate-unnamed, rate-knotted, live-toward, rate-ends}
+use Rattle.engine.specs.Rate.{rate-outside, rate-unnamed, rate-knotted, columns-live, rate-ends}
 use borrow.Author.Needs.{needs}
 use Rattle.engine.proofs.rate.Statement.{statement}
 use Rattle.engine.proofs.rate.Tie as tie
@@ -46,40 +45,28 @@ returns-3 c =
     let w = judged-within t _ (k .check .ensures) (e .before .if1 .left) in
     rate-knotted t w _ (e .if2 .left) _ _ _ _ _ _ (c .before .before .before .before .before .before .before .before .before .before .lay .ensures) _ _ _ (c .before .before .before .zero-loop .ensures) _ (c .before .if3 .taken) (c .unrated3 .ensures)
 
-toward-requires : tie.Need-toward-requires
-toward-requires c κs =
-    let e = c .before .before .before .before .before .before .before .before .before .before .before .before in
+ends-to-requires : tie.Need-ends-to-requires
+ends-to-requires c κs =
+    let x = c .before .before .before .before .before .before .before in
+    let e = x .before .before .before .before .before .before .before .before .before .before in
     let k = e .before .before .before in
     let t = k .before .args .t in
     let w = judged-within t _ (k .check .ensures) (e .before .if1 .left) in
-    let l = laid-limits t w _ _ _ _ _ _ (c .before .before .before .before .before .before .before .before .before .before .before .lay .ensures) in
-    (limits-plain _ _ _ _ _ l, e .if2 .left)
-
-ends-requires : tie.Need-ends-requires
-ends-requires c κs =
-    let e = c .before .before .before .before .before .before .before .before .before .before .before .before .before .before .before .before .before .before .before .before in
-    let k = e .before .before .before in
-    let t = k .before .args .t in
-    let w = judged-within t _ (k .check .ensures) (e .before .if1 .left) in
-    let y = c .before .before .before .before .before .before .before .before .before .before .before .before .before .before .before .before .before .before .before .lay .ensures in
-    let l = laid-limits t w _ _ _ _ _ _ y in
-    let f = c .before .before .before .before .before .before .before .toward .result in
-    let s = c .before .before .before .before .before .before .before .toward .ensures (c .before .before .before .before .before .before .before .before .before .before .before .before .before .before .before .before .before .before .before .lay .result .offset) in (
-      limits-steered _ _ _ _ _ _ f l (e .if2 .left) s,
+    let y = x .before .before .before .before .before .before .before .before .before .lay .ensures in (
+      laid-limits t w _ _ _ _ _ _ y,
       laid-ordered t w _ _ _ _ _ _ y,
-      live-toward t w _ (e .if2 .left) _ _ _ _ _ _ y _ _ _ (c .before .before .before .before .before .before .before .before .before .before .before .before .zero-loop .ensures) (c .before .before .before .before .before .before .before .before .before .before .if3 .left) f s,
+      columns-live t w _ (e .if2 .left) _ _ _ _ _ _ y _ _ _ (x .before .before .zero-loop .ensures) (x .if3 .left),
+      e .if2 .left,
     )
 
 returns-4 : tie.Need-returns-4
 returns-4 c =
-    let e = c .before .before .before .before .before .before .before .before .before .before .before .before .before .before .before .before .before .before .before .before .before in
+    let x = c .before .before .before .before .before .before .before .before in
+    let e = x .before .before .before .before .before .before .before .before .before .before in
     let k = e .before .before .before in
     let t = k .before .args .t in
     let w = judged-within t _ (k .check .ensures) (e .before .if1 .left) in
-    let y = c .before .before .before .before .before .before .before .before .before .before .before .before .before .before .before .before .before .before .before .before .lay .ensures in
-    let f = c .before .before .before .before .before .before .before .before .toward .result in
-    let s = c .before .before .before .before .before .before .before .before .toward .ensures (c .before .before .before .before .before .before .before .before .before .before .before .before .before .before .before .before .before .before .before .before .lay .result .offset) in
-    rate-ends t w _ (e .if2 .left) _ _ _ _ _ _ y _ _ _ (c .before .before .before .before .before .before .before .before .before .before .before .before .before .zero-loop .ensures) (c .before .before .before .before .before .before .before .before .before .before .before .if3 .left) f s _ (c .ends .ensures)
+    rate-ends t w _ (e .if2 .left) _ _ _ _ _ _ (x .before .before .before .before .before .before .before .before .before .lay .ensures) _ _ _ (x .before .before .zero-loop .ensures) (x .if3 .left) _ (c .ends-to .ensures)
 
 pub rate-spec : {M : Type 1} → statement M
 rate-spec =
@@ -94,6 +81,5 @@ rate-spec =
     zero-loop-requires
     unrated-requires-3
     returns-3
-    toward-requires
-    ends-requires
+    ends-to-requires
     returns-4)

@@ -16,7 +16,7 @@ met-requires : tie.Need-met-requires
 met-requires c κs = search needs
 
 returns : tie.Need-returns
-returns c = ends-met _ (rangesIn (c .before .before .before .before .before .args .least .now) (c .before .before .before .before .before .args .greatest .now)) (c .before .before .before .before .before .pre .1 .in-order) _ _ _ _ _ _ _ (c .before .before .before .before .one-end .ensures) (c .before .before .before .if1 .taken) (c .before .one-end2 .ensures) (c .met .ensures)
+returns c = ends-met _ (rangesIn (c .before .before .before .before .before .args .least .now) (c .before .before .before .before .before .args .greatest .now)) _ _ _ _ _ _ _ (c .before .before .before .before .one-end .ensures) (c .before .before .before .if1 .taken) (c .before .one-end2 .ensures) (c .met .ensures)
 
 met-requires-2 : tie.Need-met-requires-2
 met-requires-2 c κs = search needs
@@ -25,7 +25,7 @@ returns-2 : tie.Need-returns-2
 returns-2 c =
     let s = c .before .before .before .before in
     let low = c .before .before .before .one-end .ensures in
-    ends-met _ (rangesIn (c .before .before .before .before .args .least .now) (c .before .before .before .before .args .greatest .now)) (s .pre .1 .in-order) _ _ _ _ _ _ _ low (c .before .before .if1 .taken) (paced-same _ _ _ (s .pre .1 .no-blank (c .before .if2 .left)) _ _ _ low) (c .met2 .ensures)
+    ends-met _ (rangesIn (c .before .before .before .before .args .least .now) (c .before .before .before .before .args .greatest .now)) _ _ _ _ _ _ _ low (c .before .before .if1 .taken) (paced-same _ _ _ (s .pre .1 .no-blank (c .before .if2 .left)) _ _ _ low) (c .met2 .ensures)
 
 unrated-requires : tie.Need-unrated-requires
 unrated-requires c κs = search needs
