@@ -31,17 +31,24 @@ static double median(std::vector<double> values) {
     return values[values.size() / 2];
 }
 
-// Microseconds of one call: the median over rounds, each of which goes through all tables once.
-static double measured(int tables, const std::function<void(int)>& call) {
-    for (int k = 0; k < tables; k++) call(k);
-    std::vector<double> each;
-    for (int round = 0; round < rounds; round++) {
-        double start = now();
-        for (int k = 0; k < tables; k++) call(k);
-        each.push_back((now() - start) / tables);
-    }
-    return median(each);
+using Call = std::function<void(int)>;
+
+// Microseconds of one call, for each of some calls: the median over rounds, each of which takes the calls in turn, every one through all tables. So what are
+// compared are measured within a few milliseconds of each other, and a machine that slows down for a while slows all of them.
+static std::vector<double> side_by_side(int tables, const std::vector<Call>& calls) {
+    std::vector<std::vector<double>> each(calls.size());
+    for (int round = -1; round < rounds; round++)
+        for (size_t c = 0; c < calls.size(); c++) {
+            double start = now();
+            for (int k = 0; k < tables; k++) calls[c](k);
+            if (round >= 0) each[c].push_back((now() - start) / tables);
+        }
+    std::vector<double> medians;
+    for (const std::vector<double>& times : each) medians.push_back(median(times));
+    return medians;
 }
+
+static double measured(int tables, const Call& call) { return side_by_side(tables, {call})[0]; }
 
 [[noreturn]] static void wrong(const char* what, const char* family, int number) {
     printf("WRONG: %s, family '%s', table %d\n", what, family, number);
@@ -125,14 +132,16 @@ static Line line_of(const Family& family, Size size) {
         analyse(pairs[k].table, whole);
         if (!whole_right(pairs[k].table, whole)) wrong("analysis", family.name, k);
     }
-    Line line;
-    line.ours = measured(TABLES, [&](int k) { analyse(pairs[k].table, whole); });
-    line.call = measured(TABLES, [&](int k) {
-        for (Graph& g : pairs[k].graphs) kept += boost_ratio(g);
+    std::vector<double> times = side_by_side(TABLES, {
+        [&](int k) { analyse(pairs[k].table, whole); },
+        [&](int k) {
+            for (Graph& g : pairs[k].graphs) kept += boost_ratio(g);
+        },
+        [&](int k) {
+            for (Graph& g : graphs_of(pairs[k].table)) kept += boost_ratio(g);
+        },
     });
-    line.built = measured(TABLES, [&](int k) {
-        for (Graph& g : graphs_of(pairs[k].table)) kept += boost_ratio(g);
-    });
+    Line line{times[0], times[1], times[2], 0};
     line.wrong = boost_wrong(pairs);
     return line;
 }
@@ -249,9 +258,11 @@ static void bids_of(const Family& family) {
         period_bids_result r = bids(first, second);
         if (r.refusal != 0 || r.place != 0 || r.which != uint32_t(lower) || r.length != (lower ? second : first).size()) wrong("bids", family.name, k);
     }
-    double both = measured(TABLES, [&](int k) { kept += bids(files[k], files[(k + 1) % TABLES]).which; });
-    double twice = measured(TABLES, [&](int k) { analyse(files[k], a), analyse(files[(k + 1) % TABLES], b); });
-    printf("%-28s %9.1f %9.1f %8.2f\n", family.name, both, twice, both / twice);
+    std::vector<double> times = side_by_side(TABLES, {
+        [&](int k) { kept += bids(files[k], files[(k + 1) % TABLES]).which; },
+        [&](int k) { analyse(files[k], a), analyse(files[(k + 1) % TABLES], b); },
+    });
+    printf("%-28s %9.1f %9.1f %8.2f\n", family.name, times[0], times[1], times[0] / times[1]);
     fflush(stdout);
 }
 
@@ -275,9 +286,11 @@ static void rates_part() {
         std::vector<Table> tables;
         for (int k = 0; k < TABLES; k++) tables.push_back(make(family, FULL, uint64_t(k + 1)));
         static Whole whole;
-        double all = measured(TABLES, [&](int k) { analyse(tables[k], whole); });
-        double one = measured(TABLES, [&](int k) { kept += rate(tables[k], size_t(37 * k) % tables[k].n).high_p; });
-        printf("%-28s %9.1f %9.1f %14.2f\n", family.name, all, one, one / all);
+        std::vector<double> times = side_by_side(TABLES, {
+            [&](int k) { analyse(tables[k], whole); },
+            [&](int k) { kept += rate(tables[k], size_t(37 * k) % tables[k].n).high_p; },
+        });
+        printf("%-28s %9.1f %9.1f %14.2f\n", family.name, times[0], times[1], times[1] / times[0]);
     }
     printf("\n");
 }

@@ -68,32 +68,29 @@ pub fn lay(t: Table) -> Columns
     ensures { λ r. ⌜ Laid t (t .m) (r .source) (r .target) (r .offset) (r .least) (r .greatest) (r .blank) ⌝ }
 {
     let m = t.m;
-    let mut source = [0u16; 2048];
-    let mut target = [0u16; 2048];
-    let mut offset = [0u16; 2048];
-    let mut least = [0u32; 2048];
-    let mut greatest = [0u32; 2048];
+    let mut c = Columns {
+        source: [0u16; 2048],
+        target: [0u16; 2048],
+        offset: [0u16; 2048],
+        least: [0u32; 2048],
+        greatest: [0u32; 2048],
+        blank: false,
+    };
     let mut blank = false;
     let mut i = 0;
     while i < m {
         let rule = t.rules[i];
         let x = laid(rule);
-        source[i] = x.source;
-        target[i] = x.target;
-        offset[i] = x.offset;
-        least[i] = x.least;
-        greatest[i] = x.greatest;
+        c.source[i] = x.source;
+        c.target[i] = x.target;
+        c.offset[i] = x.offset;
+        c.least[i] = x.least;
+        c.greatest[i] = x.greatest;
         if x.least < x.greatest {
             blank = true;
         }
         i += 1;
     }
-    Columns {
-        source: source,
-        target: target,
-        offset: offset,
-        least: least,
-        greatest: greatest,
-        blank: blank,
-    }
+    c.blank = blank;
+    c
 }

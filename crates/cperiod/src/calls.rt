@@ -6,7 +6,7 @@ ghost use lib.ListN.{length, take, drop};
 ghost use Rattle.words.specs.Held.{room};
 ghost use Rattle.engine.specs.Rate.{refusedRate};
 ghost use Rattle.period.specs.Promise.{refusedAnalysis};
-ghost use Rattle.cperiod.specs.Promise.{bitOf, flatAnalysis, AnalysisFrom, flatRate, RateFrom, WritingFrom, SimulationFrom, ReportFrom, numberIn};
+ghost use Rattle.cperiod.specs.Promise.{bitOf, flatAnalysis, AnalysisFrom, flatRate, WritingFrom, SimulationFrom, ReportFrom, numberIn};
 ghost use Rattle.cperiod.specs.Bids.{BidsFrom};
 use crate::PeriodAnalysis;
 use crate::PeriodBids;
@@ -81,7 +81,7 @@ pub fn analysed(
     flat_analysis(a)
 }
 
-fn flat_rate(a: Rated) -> PeriodRate
+pub fn flat_rate(a: Rated) -> PeriodRate
     ensures { λ r. ⌜ r ≡ flatRate a ⌝ }
 {
     let low = a.low;
@@ -97,7 +97,7 @@ fn flat_rate(a: Rated) -> PeriodRate
     }
 }
 
-fn unrated(refusal: u32, place: usize) -> PeriodRate
+pub fn unrated(refusal: u32, place: usize) -> PeriodRate
     ensures { λ r. ⌜ r ≡ flatRate (refusedRate refusal place) ⌝ }
 {
     PeriodRate {
@@ -109,18 +109,6 @@ fn unrated(refusal: u32, place: usize) -> PeriodRate
         highp: 0,
         highq: 0,
     }
-}
-
-// The rate of one transition of what was handed in.
-pub fn rated(handed: Handed, v: usize) -> PeriodRate
-    ensures { λ r. ⌜ RateFrom handed v r ⌝ }
-{
-    if 0 < handed.refusal {
-        return unrated(handed.refusal, handed.place);
-    }
-    let t = handed.table;
-    let a = period::rate(t, v);
-    flat_rate(a)
 }
 
 // The rule file of what was handed in.

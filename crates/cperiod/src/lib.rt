@@ -100,7 +100,12 @@ pub extern "C" fn period_rate(
     ensures { λ r. ⌜ RateFrom (columnsOf n (columns (now (source .entry)) (now (target .entry)) (now (offset .entry)) (now (delay .entry)) (now (known .entry)))) v r ⌝ }
 {
     let handed = handed::from_columns(n, source, target, offset, delay, known);
-    calls::rated(handed, v)
+    if 0 < handed.refusal {
+        return calls::unrated(handed.refusal, handed.place);
+    }
+    let t = handed.table;
+    let a = period::rate(t, v);
+    calls::flat_rate(a)
 }
 
 // The rule file of a table handed in as columns.
@@ -173,7 +178,12 @@ pub extern "C" fn period_file_rate(bytes: &[u8], v: usize) -> PeriodRate
     ensures { λ r. ⌜ RateFrom (bytesOf (now (bytes .entry))) v r ⌝ }
 {
     let handed = handed::from_file(bytes);
-    calls::rated(handed, v)
+    if 0 < handed.refusal {
+        return calls::unrated(handed.refusal, handed.place);
+    }
+    let t = handed.table;
+    let a = period::rate(t, v);
+    calls::flat_rate(a)
 }
 
 // The timing simulation of the table of a rule file.

@@ -136,12 +136,12 @@ fn answered(n: usize, low: Side, high: Side) -> Lap
 }
 
 // The lap of rules within their limits, with the least and the greatest delay of each; `blank` tells whether any differ.
-pub fn laps(
-    source: &[u16; 2048],
-    target: &[u16; 2048],
-    offset: &[u16; 2048],
-    least: &[u32; 2048],
-    greatest: &[u32; 2048],
+pub fn laps<'a>(
+    source: &'a [u16; 2048],
+    target: &'a [u16; 2048],
+    offset: &'a [u16; 2048],
+    least: &'a [u32; 2048],
+    greatest: &'a [u32; 2048],
     blank: bool,
     m: usize,
     n: usize,

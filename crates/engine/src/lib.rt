@@ -35,17 +35,12 @@ pub fn measure(t: Table) -> Lap
         return laps::refused(checked.refusal, checked.place);
     }
     let c = columns::lay(t);
-    let source = c.source;
-    let target = c.target;
-    let offset = c.offset;
-    let least = c.least;
-    let greatest = c.greatest;
     laps::laps(
-        &source,
-        &target,
-        &offset,
-        &least,
-        &greatest,
+        &c.source,
+        &c.target,
+        &c.offset,
+        &c.least,
+        &c.greatest,
         c.blank,
         t.m,
         t.n,
@@ -82,21 +77,16 @@ pub fn rate(t: Table, v: usize) -> Rated
         return ends::unrated(NAME, n);
     }
     let c = columns::lay(t);
-    let source = c.source;
-    let target = c.target;
-    let offset = c.offset;
-    let zero = loops::zero_loop(&source, &target, &offset, t.m, n);
+    let zero = loops::zero_loop(&c.source, &c.target, &c.offset, t.m, n);
     if 0 < zero.len {
         return ends::unrated(laps::LOOP, zero.at);
     }
-    let least = c.least;
-    let greatest = c.greatest;
     reach::ends_to(
-        &source,
-        &target,
-        &offset,
-        &least,
-        &greatest,
+        &c.source,
+        &c.target,
+        &c.offset,
+        &c.least,
+        &c.greatest,
         c.blank,
         t.m,
         n,
@@ -122,10 +112,7 @@ pub fn turns(t: Table) -> Turned
         };
     }
     let c = columns::lay(t);
-    let source = c.source;
-    let target = c.target;
-    let offset = c.offset;
-    let zero = loops::zero_loop(&source, &target, &offset, t.m, t.n);
+    let zero = loops::zero_loop(&c.source, &c.target, &c.offset, t.m, t.n);
     if 0 < zero.len {
         return Turned {
             refusal: laps::LOOP,

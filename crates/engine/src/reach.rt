@@ -83,12 +83,12 @@ fn gather(
 }
 
 // The two ends of the rate of v, of rules within their limits all of whose loops turn; refused 6 where no loop reaches v.
-pub fn ends_to(
-    source: &[u16; 2048],
-    target: &[u16; 2048],
-    offset: &[u16; 2048],
-    least: &[u32; 2048],
-    greatest: &[u32; 2048],
+pub fn ends_to<'a>(
+    source: &'a [u16; 2048],
+    target: &'a [u16; 2048],
+    offset: &'a [u16; 2048],
+    least: &'a [u32; 2048],
+    greatest: &'a [u32; 2048],
     blank: bool,
     m: usize,
     n: usize,

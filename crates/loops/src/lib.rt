@@ -415,10 +415,10 @@ fn first_loop(
 }
 
 // The first loop of rules of offset 0.
-pub fn zero_loop(
-    source: &[u16; 2048],
-    target: &[u16; 2048],
-    offset: &[u16; 2048],
+pub fn zero_loop<'a>(
+    source: &'a [u16; 2048],
+    target: &'a [u16; 2048],
+    offset: &'a [u16; 2048],
     m: usize,
     n: usize,
 ) -> Found

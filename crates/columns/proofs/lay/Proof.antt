@@ -12,11 +12,10 @@ use Rattle.columns.proofs.lay.Statement.{statement}
 use Rattle.columns.proofs.lay.Tie as tie
 
 abbrev Inv-loop : tie.InvT-loop
-Inv-loop t m source₀ target₀ offset₀ least₀ greatest₀ blank₀ i₀ source target offset least greatest blank i =
-    (m ≡ t .m) × (i ≤ m) × (m ≤ 2048) × Laid t i source target offset least greatest blank
+Inv-loop t m c₀ blank₀ i₀ c blank i = (m ≡ t .m) × (i ≤ m) × (m ≤ 2048) × Laid t i (c .source) (c .target) (c .offset) (c .least) (c .greatest) blank
 
 abbrev μ-loop : tie.MeasureT-loop
-μ-loop t m source₀ target₀ offset₀ least₀ greatest₀ blank₀ i₀ source target offset least greatest blank i = m - i
+μ-loop t m c₀ blank₀ i₀ c blank i = m - i
 
 loop-holds : tie.Need-loop-holds Inv-loop μ-loop
 loop-holds c = (refl, omega arith, c .pre .m-high, laid-start (c .args .t1))
@@ -30,35 +29,35 @@ element-copy-out-rule c = omega arith
 laid-requires : tie.Need-laid-requires Inv-loop μ-loop
 laid-requires c κs = search needs
 
-mul-source : tie.Need-mul-source Inv-loop μ-loop
-mul-source c = omega arith
+mul-c : tie.Need-mul-c Inv-loop μ-loop
+mul-c c = omega arith
 
-array-write-source : tie.Need-array-write-source Inv-loop μ-loop
-array-write-source c = omega arith
+element-write-c : tie.Need-element-write-c Inv-loop μ-loop
+element-write-c c = omega arith
 
-mul-target : tie.Need-mul-target Inv-loop μ-loop
-mul-target c = omega arith
+mul-c-2 : tie.Need-mul-c-2 Inv-loop μ-loop
+mul-c-2 c = omega arith
 
-array-write-target : tie.Need-array-write-target Inv-loop μ-loop
-array-write-target c = omega arith
+element-write-c-2 : tie.Need-element-write-c-2 Inv-loop μ-loop
+element-write-c-2 c = omega arith
 
-mul-offset : tie.Need-mul-offset Inv-loop μ-loop
-mul-offset c = omega arith
+mul-c-3 : tie.Need-mul-c-3 Inv-loop μ-loop
+mul-c-3 c = omega arith
 
-array-write-offset : tie.Need-array-write-offset Inv-loop μ-loop
-array-write-offset c = omega arith
+element-write-c-3 : tie.Need-element-write-c-3 Inv-loop μ-loop
+element-write-c-3 c = omega arith
 
-mul-least : tie.Need-mul-least Inv-loop μ-loop
-mul-least c = omega arith
+mul-c-4 : tie.Need-mul-c-4 Inv-loop μ-loop
+mul-c-4 c = omega arith
 
-array-write-least : tie.Need-array-write-least Inv-loop μ-loop
-array-write-least c = omega arith
+element-write-c-4 : tie.Need-element-write-c-4 Inv-loop μ-loop
+element-write-c-4 c = omega arith
 
-mul-greatest : tie.Need-mul-greatest Inv-loop μ-loop
-mul-greatest c = omega arith
+mul-c-5 : tie.Need-mul-c-5 Inv-loop μ-loop
+mul-c-5 c = omega arith
 
-array-write-greatest : tie.Need-array-write-greatest Inv-loop μ-loop
-array-write-greatest c = omega arith
+element-write-c-5 : tie.Need-element-write-c-5 Inv-loop μ-loop
+element-write-c-5 c = omega arith
 
 add-i : tie.Need-add-i Inv-loop μ-loop
 add-i c = omega arith
@@ -91,16 +90,16 @@ lay-spec =
     mul-rule
     element-copy-out-rule
     laid-requires
-    mul-source
-    array-write-source
-    mul-target
-    array-write-target
-    mul-offset
-    array-write-offset
-    mul-least
-    array-write-least
-    mul-greatest
-    array-write-greatest
+    mul-c
+    element-write-c
+    mul-c-2
+    element-write-c-2
+    mul-c-3
+    element-write-c-3
+    mul-c-4
+    element-write-c-4
+    mul-c-5
+    element-write-c-5
     add-i
     loop-less
     loop-again

@@ -20,16 +20,16 @@ lay-requires c κs = judged-within _ _ (c .before .before .check .ensures) (c .i
 
 laps-requires : tie.Need-laps-requires
 laps-requires c κs =
-    let t = c .before .before .before .before .before .before .before .before .before .before .before .before .before .before .args .t in
-    let w = judged-within t _ (c .before .before .before .before .before .before .before .before .before .before .before .before .before .check .ensures) (c .before .before .before .before .before .before .before .before .before .before .before .if1 .left) in
-    let l = c .before .before .before .before .before .before .before .before .before .before .lay in
+    let t = c .before .before .before .before .before .before .before .before .before .before .args .t in
+    let w = judged-within t _ (c .before .before .before .before .before .before .before .before .before .check .ensures) (c .before .before .before .before .before .before .before .if1 .left) in
+    let l = c .before .before .before .before .before .before .lay in
     (laid-limits t w _ _ _ _ _ _ (l .ensures), laid-ordered t w _ _ _ _ _ _ (l .ensures))
 
 returns-2 : tie.Need-returns-2
 returns-2 c =
-    let t = c .before .before .before .before .before .before .before .before .before .before .before .before .before .before .before .args .t in
-    let w = judged-within t _ (c .before .before .before .before .before .before .before .before .before .before .before .before .before .before .check .ensures) (c .before .before .before .before .before .before .before .before .before .before .before .before .if1 .left) in
-    lap-table t w _ _ _ _ _ _ (c .before .before .before .before .before .before .before .before .before .before .before .lay .ensures) _ (c .laps .ensures)
+    let t = c .before .before .before .before .before .before .before .before .before .before .before .args .t in
+    let w = judged-within t _ (c .before .before .before .before .before .before .before .before .before .before .check .ensures) (c .before .before .before .before .before .before .before .before .if1 .left) in
+    lap-table t w _ _ _ _ _ _ (c .before .before .before .before .before .before .before .lay .ensures) _ (c .laps .ensures)
 
 pub measure-spec : {M : Type 1} → statement M
 measure-spec =

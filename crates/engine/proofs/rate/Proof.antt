@@ -28,31 +28,31 @@ lay-requires c κs = judged-within _ _ (c .before .before .before .check .ensure
 
 zero-loop-requires : tie.Need-zero-loop-requires
 zero-loop-requires c κs =
-    let e = c .before .before .before .before .before .before .before in
+    let e = c .before .before .before .before .before in
     let k = e .before .before .before in
     let t = k .before .args .t in
     let w = judged-within t _ (k .check .ensures) (e .before .if1 .left) in
-    laid-limits t w _ _ _ _ _ _ (c .before .before .before .before .before .before .lay .ensures)
+    laid-limits t w _ _ _ _ _ _ (c .before .before .before .before .lay .ensures)
 
 unrated-requires-3 : tie.Need-unrated-requires-3
 unrated-requires-3 c κs = search needs
 
 returns-3 : tie.Need-returns-3
 returns-3 c =
-    let e = c .before .before .before .before .before .before .before .before .before .before .before in
+    let e = c .before .before .before .before .before .before .before .before .before in
     let k = e .before .before .before in
     let t = k .before .args .t in
     let w = judged-within t _ (k .check .ensures) (e .before .if1 .left) in
-    rate-knotted t w _ (e .if2 .left) _ _ _ _ _ _ (c .before .before .before .before .before .before .before .before .before .before .lay .ensures) _ _ _ (c .before .before .before .zero-loop .ensures) _ (c .before .if3 .taken) (c .unrated3 .ensures)
+    rate-knotted t w _ (e .if2 .left) _ _ _ _ _ _ (c .before .before .before .before .before .before .before .before .lay .ensures) _ _ _ (c .before .before .before .zero-loop .ensures) _ (c .before .if3 .taken) (c .unrated3 .ensures)
 
 ends-to-requires : tie.Need-ends-to-requires
 ends-to-requires c κs =
-    let x = c .before .before .before .before .before .before .before in
-    let e = x .before .before .before .before .before .before .before .before .before .before in
+    let x = c .before .before .before .before .before .before in
+    let e = x .before .before .before .before .before .before .before .before in
     let k = e .before .before .before in
     let t = k .before .args .t in
     let w = judged-within t _ (k .check .ensures) (e .before .if1 .left) in
-    let y = x .before .before .before .before .before .before .before .before .before .lay .ensures in (
+    let y = x .before .before .before .before .before .before .before .lay .ensures in (
       laid-limits t w _ _ _ _ _ _ y,
       laid-ordered t w _ _ _ _ _ _ y,
       columns-live t w _ (e .if2 .left) _ _ _ _ _ _ y _ _ _ (x .before .before .zero-loop .ensures) (x .if3 .left),
@@ -61,12 +61,12 @@ ends-to-requires c κs =
 
 returns-4 : tie.Need-returns-4
 returns-4 c =
-    let x = c .before .before .before .before .before .before .before .before in
-    let e = x .before .before .before .before .before .before .before .before .before .before in
+    let x = c .before .before .before .before .before .before .before in
+    let e = x .before .before .before .before .before .before .before .before in
     let k = e .before .before .before in
     let t = k .before .args .t in
     let w = judged-within t _ (k .check .ensures) (e .before .if1 .left) in
-    rate-ends t w _ (e .if2 .left) _ _ _ _ _ _ (x .before .before .before .before .before .before .before .before .before .lay .ensures) _ _ _ (x .before .before .zero-loop .ensures) (x .if3 .left) _ (c .ends-to .ensures)
+    rate-ends t w _ (e .if2 .left) _ _ _ _ _ _ (x .before .before .before .before .before .before .before .lay .ensures) _ _ _ (x .before .before .zero-loop .ensures) (x .if3 .left) _ (c .ends-to .ensures)
 
 pub rate-spec : {M : Type 1} → statement M
 rate-spec =

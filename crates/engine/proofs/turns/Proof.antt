@@ -18,18 +18,18 @@ lay-requires c κs = judged-within _ _ (c .before .before .check .ensures) (c .i
 
 zero-loop-requires : tie.Need-zero-loop-requires
 zero-loop-requires c κs =
-    let t = c .before .before .before .before .before .before .before .before .before .before .args .t in
-    laid-limits t (judged-within t _ (c .before .before .before .before .before .before .before .before .before .check .ensures) (c .before .before .before .before .before .before .before .if1 .left)) _ _ _ _ _ _ (c .before .before .before .before .before .before .lay .ensures)
+    let t = c .before .before .before .before .before .before .before .before .args .t in
+    laid-limits t (judged-within t _ (c .before .before .before .before .before .before .before .check .ensures) (c .before .before .before .before .before .if1 .left)) _ _ _ _ _ _ (c .before .before .before .before .lay .ensures)
 
 returns-2 : tie.Need-returns-2
 returns-2 c =
-    let t = c .before .before .before .before .before .before .before .before .before .before .before .before .before .args .t in
-    turn-knotted t (judged-within t _ (c .before .before .before .before .before .before .before .before .before .before .before .before .check .ensures) (c .before .before .before .before .before .before .before .before .before .before .if1 .left)) _ _ _ _ _ _ (c .before .before .before .before .before .before .before .before .before .lay .ensures) _ _ _ (c .before .before .zero-loop .ensures) (c .if2 .taken)
+    let t = c .before .before .before .before .before .before .before .before .before .before .before .args .t in
+    turn-knotted t (judged-within t _ (c .before .before .before .before .before .before .before .before .before .before .check .ensures) (c .before .before .before .before .before .before .before .before .if1 .left)) _ _ _ _ _ _ (c .before .before .before .before .before .before .before .lay .ensures) _ _ _ (c .before .before .zero-loop .ensures) (c .if2 .taken)
 
 returns-3 : tie.Need-returns-3
 returns-3 c =
-    let t = c .before .before .before .before .before .before .before .before .before .before .before .before .before .args .t in
-    turn-live t (judged-within t _ (c .before .before .before .before .before .before .before .before .before .before .before .before .check .ensures) (c .before .before .before .before .before .before .before .before .before .before .if1 .left)) _ _ _ _ _ _ (c .before .before .before .before .before .before .before .before .before .lay .ensures) _ _ _ (c .before .before .zero-loop .ensures) (c .if2 .left)
+    let t = c .before .before .before .before .before .before .before .before .before .before .before .args .t in
+    turn-live t (judged-within t _ (c .before .before .before .before .before .before .before .before .before .before .check .ensures) (c .before .before .before .before .before .before .before .before .if1 .left)) _ _ _ _ _ _ (c .before .before .before .before .before .before .before .lay .ensures) _ _ _ (c .before .before .zero-loop .ensures) (c .if2 .left)
 
 pub turns-spec : {M : Type 1} → statement M
 turns-spec =
