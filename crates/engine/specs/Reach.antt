@@ -24,7 +24,8 @@ use Rattle.theory.specs.Walk.{path-short, LoopAbove, Shortened, shorten}
 use Rattle.theory.specs.Rate.{reach-here}
 use Rattle.theory.specs.Gather.{Reaching, Gathers, gathers-all}
 use Rattle.columns.specs.Columns.{shape, Limits, Ordered}
-use Rattle.loops.specs.Listed.{plain, Listed, listed-none, listed-skip, listed-add, Gathered}
+use Rattle.peel.specs.Plain.{plain}
+use Rattle.loops.specs.Listed.{Listed, listed-none, listed-skip, listed-add, Gathered}
 use Rattle.loops.specs.Near.{near-least}
 use Rattle.loops.specs.Queue.{Sought}
 

@@ -1,4 +1,4 @@
-// The engine: the lap of a table, the rate of one of its transitions, and whether a loop of it has no turn. What works on columns is in the crates `columns`, `search` and `loops`.
+// The engine: the lap of a table, the rate of one of its transitions, and whether a loop of it has no turn. What works on columns is in the crates `columns`, `search`, `peel` and `loops`.
 mod ends;
 mod laps;
 mod reach;

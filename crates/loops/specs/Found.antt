@@ -26,10 +26,11 @@ use Rattle.theory.specs.Loop.{loop-short, loop-start}
 use Rattle.theory.specs.First.{KindLoop, FirstLoop}
 use Rattle.theory.specs.Near.{Any, picked-none, picked-first, closed-first}
 use Rattle.columns.specs.Columns.{shape, Limits}
-use Rattle.loops.specs.Listed.{Listed, Gathered, plain, picks, limits-within}
+use Rattle.peel.specs.Plain.{plain}
+use Rattle.peel.specs.Peel.{Stays, loop-remnant}
+use Rattle.peel.specs.Peeling.{Peeled, peeled-none}
+use Rattle.loops.specs.Listed.{Listed, Gathered, picks, limits-within}
 use Rattle.loops.specs.Near.{Near, Settled, Ways, near-least, near-short, followed, followed-first, Steps}
-use Rattle.loops.specs.Peel.{Stays, loop-remnant}
-use Rattle.loops.specs.Peeling.{Peeled, peeled-none}
 
 -- the first loop of the kind A has len rules, those that stand first, and is read from at; there is none where len is 0
 pub record FoundFirst (S : Shape) (A : ℕ → Type 0) (n len at : ℕ) (rules : List ℕ) : Type 0 where

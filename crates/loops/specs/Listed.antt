@@ -5,10 +5,9 @@
 --   listed-few                     every listed number is the number of a rule of the columns
 --   Gathered column list len xs    == place j of xs holds the column's entry for rule j of the list
 --   gathered-add                   the loop that gathers them
---   plain source target len        == the shape that two columns say, whose offsets nobody asks for
 --   picks                          gathered columns say the shape of the listed rules
 --   Within from to len             == the two ends of every rule are below 256
---   limits-picked, limits-within, limits-back, limits-most   what the limits of the whole list give
+--   limits-picked, limits-within, limits-most   what the limits of the whole list give
 use mathlib.Core.Path.{_≡_, sym, _∙_}
 use mathlib.Core.Logic.{by-cases}
 use mathlib.Core.List.{List, []}
@@ -17,9 +16,9 @@ use native.Mathlib.Omega.{arith}
 use native.Mathlib.Decide.{ℕ-discrete}
 use lib.ListN.{length, getD, set}
 use lib.Seq.{getD-set-same, getD-set-other}
-use Rattle.model.specs.Shape.{Shape}
 use Rattle.theory.specs.Near.{Picks}
 use Rattle.columns.specs.Columns.{shape, Limits}
+use Rattle.peel.specs.Plain.{plain}
 
 -- the first len places hold the rules below m of the kind A, lowest first
 pub record Listed (A : ℕ → Type 0) (list : List ℕ) (len m : ℕ) : Type 0 where
@@ -96,10 +95,6 @@ gathered-add column list xs j x g room e i l =
     (λ s. rw (s, getD-set-same xs j x 0 room) e)
     (λ d. getD-set-other xs j i x 0 d ∙ g i (omega arith))
 
--- the shape that two columns say, whose offsets nobody asks for
-abbrev pub plain : List ℕ → List ℕ → ℕ → Shape
-plain source target len = shape source target [] len
-
 module _ (source target offset list from to : List ℕ) (m len : ℕ) (gf : Gathered source list len from) (gt : Gathered target list len to) where
   pub picks : (A : ℕ → Type 0) → Listed A list len m → Picks A (shape source target offset m) (plain from to len) (λ j. getD list j 0)
   picks A h = record { is-rule = h .below; kind = h .kind; source-is = gf; target-is = gt; ascending = h .ascending; all = h .all }
@@ -126,16 +121,6 @@ limits-within from to len n l =
       few = l .few-rules;
       from-below = λ j b. omega (arith, l .fits j b, l .few-transitions);
       to-below = λ j b. omega (arith, l .fits j b, l .few-transitions);
-    }
-
-pub limits-back : (from to : List ℕ) (len n : ℕ) → Limits from to [] len n → Limits to from [] len n
-limits-back from to len n l =
-    record {
-      few-rules = l .few-rules;
-      some-transition = l .some-transition;
-      few-transitions = l .few-transitions;
-      fits = λ r b. let f = l .fits r b in (f .1, f .0);
-      small-offsets = λ r b. omega arith;
     }
 
 -- the limits with the highest number of transitions

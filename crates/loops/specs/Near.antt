@@ -22,7 +22,8 @@ use lib.Seq.{getD-set-same, getD-set-other}
 use Rattle.model.specs.Shape.{Shape, Fits}
 use Rattle.model.specs.Walk.{Walk}
 use Rattle.theory.specs.Near.{FirstWalk, walk-first, closed-short}
-use Rattle.loops.specs.Listed.{plain, Within}
+use Rattle.peel.specs.Plain.{plain}
+use Rattle.loops.specs.Listed.{Within}
 
 -- how far t is from v, where the least number of rules, 1 or more, from t to v is d
 unfoldable pub awayFrom : ℕ → ℕ → ℕ → ℕ

@@ -20,8 +20,8 @@ use native.Mathlib.Decide.{ℕ-discrete, decLt}
 use lib.ListN.{length, getD, set, replicate, getD-replicate}
 use lib.Seq.{getD-set-same, getD-set-other, set-getD}
 use Rattle.model.specs.Shape.{Shape, Fits}
-use Rattle.loops.specs.Sum.{sum, sum-but, sum-most, sign, sign-some, sign-none, sign-most, inside}
-use Rattle.loops.specs.Linked.{Row, row-none, row-set}
+use Rattle.peel.specs.Sum.{sum, sum-but, sum-most, sign, sign-some, sign-none, sign-most, inside}
+use Rattle.peel.specs.Linked.{Row, row-none, row-set}
 use Rattle.loops.specs.Near.{Way, Near, near-none, near-put, Settled, away-other}
 
 -- how many of the n distances were not found: 512 stands for those

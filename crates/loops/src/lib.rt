@@ -1,6 +1,4 @@
 // The first loop of a kind of rule: through the lowest transition on any of them, of fewest rules, then first in the order of rule numbers.
-mod peel;
-
 ghost use mathlib.Core.Path.{_≡_};
 ghost use mathlib.Core.Bool.{true, false};
 ghost use mathlib.Core.List.{[]};
@@ -8,9 +6,10 @@ ghost use Prim.Native.Nat.{ℕ, _+_, _-_, _*_, _^_, _≤_, _<_};
 ghost use lib.ListN.{getD, take};
 ghost use Rattle.theory.specs.Schedule.{TightRule};
 ghost use Rattle.columns.specs.Columns.{shape, delayAt, Limits, Short};
-ghost use Rattle.loops.specs.Listed.{Listed, Gathered, plain, Within};
-ghost use Rattle.loops.specs.Peel.{Stays};
-ghost use Rattle.loops.specs.Linked.{Linked};
+ghost use Rattle.peel.specs.Plain.{plain};
+ghost use Rattle.peel.specs.Linked.{Linked};
+ghost use Rattle.peel.specs.Peel.{Stays};
+ghost use Rattle.loops.specs.Listed.{Listed, Gathered, Within};
 ghost use Rattle.loops.specs.Near.{awayFrom, Ways, followed};
 ghost use Rattle.loops.specs.Queue.{Noted, Searching, Looking, Sought};
 ghost use Rattle.loops.specs.Found.{numbers, Ready, FoundIn, FoundFirst};

@@ -1,7 +1,7 @@
 -- `loops::first_loop` meets its contract: there is a loop only where peeling leaves a remnant, and then it is sought.
 -- Assumes nothing.
-use Rattle.loops.specs.Listed.{plain}
-use Rattle.loops.specs.Peel.{remnant-stays}
+use Rattle.peel.specs.Plain.{plain}
+use Rattle.peel.specs.Peel.{remnant-stays}
 use Rattle.loops.specs.Found.{found-peeled}
 use native.Mathlib.Omega.{arith}
 use borrow.Author.Needs.{needs}

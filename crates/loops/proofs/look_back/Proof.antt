@@ -4,8 +4,8 @@
 -- Assumes nothing.
 use Prim.Native.Nat.{_-_}
 use mathlib.Core.Path.{_≡_}
-use Rattle.loops.specs.Listed.{plain}
-use Rattle.loops.specs.Linked.{Points, points-first, points-last, points-rule, points-next, points-all}
+use Rattle.peel.specs.Plain.{plain}
+use Rattle.peel.specs.Linked.{Points, points-first, points-last, points-rule, points-next, points-all}
 use Rattle.loops.specs.Queue.{Looking, looking-starts, looking-next, looking-full}
 use native.Mathlib.Omega.{arith}
 use Rattle.loops.proofs.look_back.Statement.{statement}

@@ -3,7 +3,7 @@
 -- Assumes nothing.
 use Prim.Native.Nat.{_-_}
 use mathlib.Core.Logic.{inl, inr}
-use Rattle.loops.specs.Listed.{plain}
+use Rattle.peel.specs.Plain.{plain}
 use Rattle.loops.specs.Queue.{Spreading, ready-home, ready-next, spreading-starts, spreading-next, spreading-ends}
 use native.Mathlib.Omega.{arith}
 use Rattle.loops.proofs.near.Statement.{statement}

@@ -4,7 +4,8 @@
 use Prim.Native.Nat.{_-_, _≤_}
 use mathlib.Core.Path.{refl}
 use mathlib.Core.Logic.{⊎-elim}
-use Rattle.loops.specs.Listed.{plain, limits-within}
+use Rattle.peel.specs.Plain.{plain}
+use Rattle.loops.specs.Listed.{limits-within}
 use Rattle.loops.specs.Found.{NoneBelow, none-struck, none-far, ready, found-here, found-none}
 use native.Mathlib.Omega.{arith}
 use Rattle.loops.proofs.seek_loop.Statement.{statement}

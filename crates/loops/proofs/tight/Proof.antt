@@ -3,7 +3,7 @@
 use Prim.Native.Nat.{_*_, _≤_}
 use mathlib.Core.Path.{refl, ap}
 use native.Mathlib.Nat.{mul-le-mul}
-use Rattle.loops.specs.Sum.{not-both}
+use Rattle.peel.specs.Sum.{not-both}
 use native.Mathlib.Omega.{arith}
 use borrow.Author.Needs.{needs}
 use Rattle.loops.proofs.tight.Statement.{statement}

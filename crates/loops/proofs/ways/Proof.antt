@@ -5,7 +5,7 @@ use Prim.Native.Nat.{_-_, _≤_}
 use mathlib.Core.Path.{_≡_}
 use lib.ListN.{getD}
 use mathlib.Core.Logic.{⊎-elim}
-use Rattle.loops.specs.Listed.{plain}
+use Rattle.peel.specs.Plain.{plain}
 use Rattle.loops.specs.Near.{away-most, Ways, ways-none, ways-led, ways-passed}
 use native.Mathlib.Omega.{arith}
 use Rattle.loops.proofs.ways.Statement.{statement}

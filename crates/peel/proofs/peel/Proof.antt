@@ -1,11 +1,11 @@
--- `loops::peel::peel` meets its contract: the remnant, after those that no remaining rule enters and those that none leaves.
+-- `peel::peel` meets its contract: the remnant, after those that no remaining rule enters and those that none leaves.
 -- Assumes nothing.
-use Rattle.loops.specs.Listed.{limits-back}
-use Rattle.loops.specs.Linked.{row-none}
-use Rattle.loops.specs.Peeling.{peeled-once, peeled-twice}
+use Rattle.peel.specs.Plain.{limits-back}
+use Rattle.peel.specs.Linked.{row-none}
+use Rattle.peel.specs.Peeling.{peeled-once, peeled-twice}
 use native.Mathlib.Omega.{arith}
-use Rattle.loops.proofs.peel.peel.Statement.{statement}
-use Rattle.loops.proofs.peel.peel.Tie as tie
+use Rattle.peel.proofs.peel.Statement.{statement}
+use Rattle.peel.proofs.peel.Tie as tie
 
 strike-unentered-requires : tie.Need-strike-unentered-requires
 strike-unentered-requires c κs = let p = c .before .before .pre in (p, row-none _ (p .some-transition))

@@ -1,11 +1,11 @@
--- `loops::peel::remains` meets its contract: a rule remains while both its ends do.
+-- `peel::remains` meets its contract: a rule remains while both its ends do.
 -- Assumes nothing.
 use mathlib.Core.Path.{refl}
-use Rattle.loops.specs.Sum.{not-both}
+use Rattle.peel.specs.Sum.{not-both}
 use native.Mathlib.Omega.{arith}
 use borrow.Author.Needs.{needs}
-use Rattle.loops.proofs.peel.remains.Statement.{statement}
-use Rattle.loops.proofs.peel.remains.Tie as tie
+use Rattle.peel.proofs.remains.Statement.{statement}
+use Rattle.peel.proofs.remains.Tie as tie
 
 element-copy-out-if1 : tie.Need-element-copy-out-if1
 element-copy-out-if1 c = search needs

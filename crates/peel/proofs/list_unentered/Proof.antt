@@ -1,14 +1,14 @@
--- `loops::peel::list_unentered` meets its contract: the transitions that no remaining rule enters wait.
+-- `peel::list_unentered` meets its contract: the transitions that no remaining rule enters wait.
 -- The loop's invariant: so it is of the transitions passed. The measure is the number of transitions left.
 -- Assumes nothing.
 use Prim.Native.Nat.{_-_, _≤_, _<_}
 use mathlib.Core.Path.{_≡_}
 use mathlib.Core.Logic.{⊎-elim}
-use Rattle.loops.specs.Linked.{Row, row-set}
-use Rattle.loops.specs.Peeling.{Waiting, waiting-none, waiting-skip, waiting-push}
+use Rattle.peel.specs.Linked.{Row, row-set}
+use Rattle.peel.specs.Peeling.{Waiting, waiting-none, waiting-skip, waiting-push}
 use native.Mathlib.Omega.{arith}
-use Rattle.loops.proofs.peel.list_unentered.Statement.{statement}
-use Rattle.loops.proofs.peel.list_unentered.Tie as tie
+use Rattle.peel.proofs.list_unentered.Statement.{statement}
+use Rattle.peel.proofs.list_unentered.Tie as tie
 
 abbrev Inv-loop : tie.InvT-loop
 Inv-loop n alive entering order₀ count₀ v₀ order count v = (v ≤ n) × Row n order × Waiting v alive entering order 0 count

@@ -22,10 +22,10 @@ use lib.Seq.{getD-set-same, getD-set-other}
 use Rattle.model.specs.Shape.{Shape}
 use Rattle.theory.specs.Relax.{zeros-at}
 use Rattle.columns.specs.Columns.{Limits}
-use Rattle.loops.specs.Listed.{plain}
-use Rattle.loops.specs.Sum.{sum, sum-but, sign, sign-some, sign-none, sign-most, total, total-set, inside}
-use Rattle.loops.specs.Linked.{Linked, Points, points-first, points-last, points-rule, points-next, points-all, Row, row-set}
-use Rattle.loops.specs.Peel.{Entered, Left, Loose, StruckOut, Remnant}
+use Rattle.peel.specs.Plain.{plain}
+use Rattle.peel.specs.Sum.{sum, sum-but, sign, sign-some, sign-none, sign-most, total, total-set, inside}
+use Rattle.peel.specs.Linked.{Linked, Points, points-first, points-last, points-rule, points-next, points-all, Row, row-set}
+use Rattle.peel.specs.Peel.{Entered, Left, Loose, StruckOut, Remnant}
 
 -- --------------------------------------------------------------------------------------------------------------------------------- counts
 

@@ -1,16 +1,16 @@
--- `loops::peel::count_entering` meets its contract: how many remaining rules enter each transition.
+-- `peel::count_entering` meets its contract: how many remaining rules enter each transition.
 -- The loop's invariant: of the rules passed, those that remain are counted. The measure is the number of rules left.
 -- Assumes nothing.
 use Prim.Native.Nat.{_-_, _≤_}
 use mathlib.Core.Path.{_≡_}
 use mathlib.Core.Logic.{⊎-elim}
 use lib.ListN.{length, length-set}
-use Rattle.loops.specs.Listed.{plain}
-use Rattle.loops.specs.Peeling.{Tallied, tallied-none, tallied-add, tallied-skip, tallied-most}
+use Rattle.peel.specs.Plain.{plain}
+use Rattle.peel.specs.Peeling.{Tallied, tallied-none, tallied-add, tallied-skip, tallied-most}
 use native.Mathlib.Omega.{arith}
 use borrow.Author.Needs.{needs}
-use Rattle.loops.proofs.peel.count_entering.Statement.{statement}
-use Rattle.loops.proofs.peel.count_entering.Tie as tie
+use Rattle.peel.proofs.count_entering.Statement.{statement}
+use Rattle.peel.proofs.count_entering.Tie as tie
 
 abbrev Inv-loop : tie.InvT-loop
 Inv-loop from to len n alive entering₀ r₀ entering r = (r ≤ len) × (length entering ≡ 256) × Tallied (plain from to len) alive 0 0 r entering

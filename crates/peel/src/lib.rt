@@ -6,9 +6,9 @@ ghost use mathlib.Core.List.{[]};
 ghost use Prim.Native.Nat.{ℕ, _≤_, _<_};
 ghost use lib.ListN.{getD, replicate};
 ghost use Rattle.columns.specs.Columns.{Limits};
-ghost use Rattle.loops.specs.Listed.{plain};
-ghost use Rattle.loops.specs.Linked.{Linked, Row};
-ghost use Rattle.loops.specs.Peeling.{Tallied, Waiting, Lessened, Spread, StruckNext, Stripped, Peeled};
+ghost use Rattle.peel.specs.Plain.{plain};
+ghost use Rattle.peel.specs.Linked.{Linked, Row};
+ghost use Rattle.peel.specs.Peeling.{Tallied, Waiting, Lessened, Spread, StruckNext, Stripped, Peeled};
 
 // The transitions that remain (1) and those struck (0), and how many were struck.
 pub struct Remnant {

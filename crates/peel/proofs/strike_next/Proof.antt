@@ -1,16 +1,16 @@
--- `loops::peel::strike_next` meets its contract: the next transition that waits is struck, and one rule less enters each target of a rule that leaves it.
+-- `peel::strike_next` meets its contract: the next transition that waits is struck, and one rule less enters each target of a rule that leaves it.
 -- The loop's invariant: so it is of the rules looked at. The measure is the place of the next rule.
 -- Assumes nothing.
 use Prim.Native.Nat.{_+_}
 use mathlib.Core.Path.{_≡_, refl}
 use mathlib.Core.Logic.{⊎-elim}
 use lib.ListN.{getD}
-use Rattle.loops.specs.Listed.{plain}
-use Rattle.loops.specs.Linked.{Points}
-use Rattle.loops.specs.Peeling.{Spread, spread-starts, spread-inside, spread-points, spread-ready, spread-less, spread-past, spread-ends}
+use Rattle.peel.specs.Plain.{plain}
+use Rattle.peel.specs.Linked.{Points}
+use Rattle.peel.specs.Peeling.{Spread, spread-starts, spread-inside, spread-points, spread-ready, spread-less, spread-past, spread-ends}
 use native.Mathlib.Omega.{arith}
-use Rattle.loops.proofs.peel.strike_next.Statement.{statement}
-use Rattle.loops.proofs.peel.strike_next.Tie as tie
+use Rattle.peel.proofs.strike_next.Statement.{statement}
+use Rattle.peel.proofs.strike_next.Tie as tie
 
 abbrev Inv-loop : tie.InvT-loop
 Inv-loop from to len n head next done count alive entering₀ order₀ v waiting₀ left₀ entering order waiting left = Spread (plain from to len) n v left alive entering order (done + 1) waiting × Points from len v left × (getD alive v 0 ≡ 0)

@@ -1,12 +1,12 @@
--- `loops::peel::link` meets its contract: the rules at each transition, linked from the last to the first.
+-- `peel::link` meets its contract: the rules at each transition, linked from the last to the first.
 -- The loop's invariant: the rules passed are linked. The measure is the number of rules left.
 -- Assumes nothing.
 use Prim.Native.Nat.{_-_, _≤_}
-use Rattle.loops.specs.Linked.{Linked, linked-none, linked-add}
+use Rattle.peel.specs.Linked.{Linked, linked-none, linked-add}
 use mathlib.Core.Path.{_≡_, refl}
 use native.Mathlib.Omega.{arith}
-use Rattle.loops.proofs.peel.link.Statement.{statement}
-use Rattle.loops.proofs.peel.link.Tie as tie
+use Rattle.peel.proofs.link.Statement.{statement}
+use Rattle.peel.proofs.link.Tie as tie
 
 abbrev Inv-loop : tie.InvT-loop
 Inv-loop column len head₀ next₀ r₀ head next r = (r ≤ len) × Linked column r head next

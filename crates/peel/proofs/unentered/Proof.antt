@@ -1,10 +1,10 @@
--- `loops::peel::unentered` meets its contract: a transition that remains, though no rule enters it.
+-- `peel::unentered` meets its contract: a transition that remains, though no rule enters it.
 -- Assumes nothing.
 use mathlib.Core.Path.{refl}
-use Rattle.loops.specs.Sum.{not-both}
+use Rattle.peel.specs.Sum.{not-both}
 use native.Mathlib.Omega.{arith}
-use Rattle.loops.proofs.peel.unentered.Statement.{statement}
-use Rattle.loops.proofs.peel.unentered.Tie as tie
+use Rattle.peel.proofs.unentered.Statement.{statement}
+use Rattle.peel.proofs.unentered.Tie as tie
 
 returns : tie.Need-returns
 returns c = (λ t. (omega arith, omega arith), λ f. absurd (not-both _ refl f))

@@ -1,11 +1,11 @@
--- `loops::peel::one_less` meets its contract: one rule less enters w, which waits now if that was the last.
+-- `peel::one_less` meets its contract: one rule less enters w, which waits now if that was the last.
 -- Assumes nothing.
 use Prim.Native.Nat.{_-_}
 use mathlib.Core.Path.{refl}
 use native.Mathlib.Omega.{arith}
 use borrow.Author.Needs.{needs}
-use Rattle.loops.proofs.peel.one_less.Statement.{statement}
-use Rattle.loops.proofs.peel.one_less.Tie as tie
+use Rattle.peel.proofs.one_less.Statement.{statement}
+use Rattle.peel.proofs.one_less.Tie as tie
 
 mul-left : tie.Need-mul-left
 mul-left c = search needs

@@ -1,13 +1,13 @@
--- `loops::peel::strike_unentered` meets its contract: transitions are struck that no remaining rule enters, until there is none.
+-- `peel::strike_unentered` meets its contract: transitions are struck that no remaining rule enters, until there is none.
 -- The loop's invariant: those before `done` were struck, the others wait, and rules are counted. The measure is the number of transitions not struck.
 -- Assumes nothing.
 use Prim.Native.Nat.{_-_}
 use mathlib.Core.Path.{refl}
-use Rattle.loops.specs.Listed.{plain}
-use Rattle.loops.specs.Peeling.{Striking, striking-starts, striking-next, striking-ends}
+use Rattle.peel.specs.Plain.{plain}
+use Rattle.peel.specs.Peeling.{Striking, striking-starts, striking-next, striking-ends}
 use native.Mathlib.Omega.{arith}
-use Rattle.loops.proofs.peel.strike_unentered.Statement.{statement}
-use Rattle.loops.proofs.peel.strike_unentered.Tie as tie
+use Rattle.peel.proofs.strike_unentered.Statement.{statement}
+use Rattle.peel.proofs.strike_unentered.Tie as tie
 
 abbrev Inv-loop : tie.InvT-loop
 Inv-loop from to len n alive₀ order₀ head next entering₀ count₀ done₀ alive order entering count done = Striking (plain from to len) n alive₀ alive entering order done count

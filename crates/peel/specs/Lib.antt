@@ -1,0 +1,5 @@
+pub mod Sum
+pub mod Plain
+pub mod Linked
+pub mod Peel
+pub mod Peeling
