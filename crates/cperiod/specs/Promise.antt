@@ -22,8 +22,8 @@ use lib.ListN.{length, drop}
 use Rattle.sevens.specs.Sevens.{Answer, numberOf}
 use Rattle.table.specs.declared.Table.{Table}
 use Rattle.period.specs.declared.Analysis.{Analysis}
-use Rattle.engine.specs.declared.Rated.{Rated}
-use Rattle.engine.specs.Rate.{refusedRate, RateOf, rate-unique}
+use Rattle.rates.specs.declared.Rated.{Rated}
+use Rattle.rates.specs.Rate.{refusedRate, RateOf, rate-unique}
 use Rattle.period.specs.Promise.{Outcome, outcome, refusedAnalysis, AnalysisOf, analysis-unique}
 use Rattle.rulefile.specs.declared.Written.{Written}
 use Rattle.rulefile.specs.File.{groups, refusedWrite, writtenAs, Writes}

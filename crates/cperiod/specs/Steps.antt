@@ -11,8 +11,8 @@ use lib.ListN.{length, take, drop}
 use Rattle.table.specs.declared.Table.{Table}
 use Rattle.sevens.specs.Sevens.{Answer, numberOf}
 use Rattle.period.specs.declared.Analysis.{Analysis}
-use Rattle.engine.specs.declared.Rated.{Rated}
-use Rattle.engine.specs.Rate.{refusedRate, RateOf}
+use Rattle.rates.specs.declared.Rated.{Rated}
+use Rattle.rates.specs.Rate.{refusedRate, RateOf}
 use Rattle.period.specs.Promise.{outcome, refusedAnalysis, AnalysisOf}
 use Rattle.rulefile.specs.declared.Written.{Written}
 use Rattle.rulefile.specs.File.{refusedWrite, writtenAs, Writes}

@@ -12,7 +12,6 @@ use mathlib.Core.Path.{_≡_, sym, ap, _∙_, subst}
 use mathlib.Core.List.{[]}
 use Prim.Native.Nat.{ℕ, _*_, _≤_, _<_}
 use native.Mathlib.Omega.{arith}
-use lib.ListN.{getD}
 use Rattle.model.specs.Shape.{Shape, Fits}
 use Rattle.model.specs.Loop.{Live}
 use Rattle.model.specs.Knot.{Knot}
@@ -21,16 +20,15 @@ use Rattle.model.specs.Answer.{Answer, Answers}
 use Rattle.model.specs.Rate.{SomeLoopTo, NoLoopTo, Rate, LowRate, HighRate, RateRange, Rates}
 use Rattle.theory.specs.Loop.{loop-start}
 use Rattle.theory.specs.Knot.{knot-not-live}
-use Rattle.theory.specs.Filling.{Proper, ranges-proper}
 use Rattle.theory.specs.Ends.{low-at-least, high-at-greatest}
 use Rattle.theory.specs.Rate.{steered, steering, low-steered, high-steered, low-rate-is, high-rate-is, low-rate-at, high-rate-at, rule-reaches, rate-rises, rate-within, period-rate}
 use Rattle.table.specs.declared.Table.{Table}
 use Rattle.table.specs.Limits.{maxOffset, maxDelay}
-use Rattle.table.specs.Form.{unusedRule}
 use Rattle.table.specs.Fields.{Within, within-not-bad}
-use Rattle.table.specs.Meaning.{used, delayOf, shapeOf, rangesOf, within-fits, within-offsets, within-delays}
-use Rattle.engine.specs.Rate.{RateVerdict, bad-field, no-name, knot-at, unreached, too-wide, rated, JudgesRate, rate-never-wide, rate-verdict-exists, rate-verdict-unique, refusedRate, answeredRate, ratedOf, RateOf}
-use Rattle.engine.specs.declared.Rated.{Rated}
+use Rattle.table.specs.Meaning.{shapeOf, rangesOf, within-fits, within-offsets, within-delays}
+use Rattle.engine.specs.Verdict.{proper}
+use Rattle.rates.specs.Rate.{RateVerdict, bad-field, no-name, knot-at, unreached, too-wide, rated, JudgesRate, rate-never-wide, rate-verdict-exists, rate-verdict-unique, refusedRate, answeredRate, ratedOf, RateOf}
+use Rattle.rates.specs.declared.Rated.{Rated}
 use Rattle.demands.specs.Filled.{Filled, EndsInward, ends-inward, bad-filled, within-filled, shape-filled, narrows-filled}
 
 -- ------------------------------------------------------------------------------------------------------------------------------- refused exactly when
@@ -122,15 +120,12 @@ module _ (t : Table) (w : Within t) (live : Live (shapeOf t)) where
   fits : Fits (shapeOf t) (t .n)
   fits = within-fits t w
 
-  proper : Proper (shapeOf t) (rangesOf t)
-  proper = ranges-proper (shapeOf t) maxDelay (λ r. delayOf (getD (used t) r unusedRule .delay))
-
   -- the ends are the rates with the least and with the greatest delays
   low-at : (v P Q : ℕ) → v < t .n → LowRate (shapeOf t) (rangesOf t) v P Q → Rate (shapeOf t) (rangesOf t .least) v P Q
-  low-at v P Q b = low-rate-at S (t .n) fits v (rangesOf t) proper b maxOffset maxDelay (within-offsets t w) (within-delays t w) live P Q
+  low-at v P Q b = low-rate-at S (t .n) fits v (rangesOf t) (proper t) b maxOffset maxDelay (within-offsets t w) (within-delays t w) live P Q
 
   high-at : (v P Q : ℕ) → v < t .n → HighRate (shapeOf t) (rangesOf t) v P Q → Rate (shapeOf t) (rangesOf t .greatest) v P Q
-  high-at v P Q b = high-rate-at S (t .n) fits v (rangesOf t) proper b maxOffset maxDelay (within-offsets t w) (within-delays t w) live P Q
+  high-at v P Q b = high-rate-at S (t .n) fits v (rangesOf t) (proper t) b maxOffset maxDelay (within-offsets t w) (within-delays t w) live P Q
 
   -- NEITHER END FALLS ALONG A RULE
   pub rates-rise : (r : ℕ) → r < t .m → (a b : RateRange) → Rates (shapeOf t) (rangesOf t) (shapeOf t .source r) a → Rates (shapeOf t) (rangesOf t) (shapeOf t .target r) b
@@ -145,10 +140,10 @@ module _ (t : Table) (w : Within t) (live : Live (shapeOf t)) where
   -- THE LARGEST RATE OF ALL IS THE TABLE'S PERIOD
   module _ (a : Answer) (x : Answers (shapeOf t) (rangesOf t) (t .n) a) where
     low-period : Period (shapeOf t) (rangesOf t .least) (a .lowP) (a .lowQ)
-    low-period = low-at-least S (rangesOf t) proper (t .n) maxOffset maxDelay fits (within-offsets t w) (within-delays t w) live (a .lowP) (a .lowQ) (x .low)
+    low-period = low-at-least S (rangesOf t) (proper t) (t .n) maxOffset maxDelay fits (within-offsets t w) (within-delays t w) live (a .lowP) (a .lowQ) (x .low)
 
     high-period : Period (shapeOf t) (rangesOf t .greatest) (a .highP) (a .highQ)
-    high-period = high-at-greatest S (rangesOf t) proper (t .n) maxOffset maxDelay fits (within-offsets t w) (within-delays t w) live (a .highP) (a .highQ) (x .high)
+    high-period = high-at-greatest S (rangesOf t) (proper t) (t .n) maxOffset maxDelay fits (within-offsets t w) (within-delays t w) live (a .highP) (a .highQ) (x .high)
 
     pub rates-within : (v : ℕ) → v < t .n → (b : RateRange) → Rates (shapeOf t) (rangesOf t) v b → (b .lowP * a .lowQ ≤ a .lowP * b .lowQ) × (b .highP * a .highQ ≤ a .highP * b .highQ)
     rates-within v l b y = (rate-within S _ _ _ _ _ _ (low-at _ _ _ l (y .low)) low-period, rate-within S _ _ _ _ _ _ (high-at _ _ _ l (y .high)) high-period)
@@ -156,9 +151,9 @@ module _ (t : Table) (w : Within t) (live : Live (shapeOf t)) where
     pub low-attained : (v : ℕ) × (v < t .n) × LowRate (shapeOf t) (rangesOf t) v (a .lowP) (a .lowQ)
     low-attained =
         let p = low-period in
-        (p .at, loop-start S (t .n) fits (p .at) (p .loop) (p .is-loop), low-rate-is S (t .n) fits (p .at) (rangesOf t) proper _ _ (period-rate S _ _ _ p) (x .low .attained .lowest))
+        (p .at, loop-start S (t .n) fits (p .at) (p .loop) (p .is-loop), low-rate-is S (t .n) fits (p .at) (rangesOf t) (proper t) _ _ (period-rate S _ _ _ p) (x .low .attained .lowest))
 
     pub high-attained : (v : ℕ) × (v < t .n) × HighRate (shapeOf t) (rangesOf t) v (a .highP) (a .highQ)
     high-attained =
         let p = high-period in
-        (p .at, loop-start S (t .n) fits (p .at) (p .loop) (p .is-loop), high-rate-is S (t .n) fits (p .at) (rangesOf t) proper _ _ (period-rate S _ _ _ p) (x .high .attained .lowest))
+        (p .at, loop-start S (t .n) fits (p .at) (p .loop) (p .is-loop), high-rate-is S (t .n) fits (p .at) (rangesOf t) (proper t) _ _ (period-rate S _ _ _ p) (x .high .attained .lowest))

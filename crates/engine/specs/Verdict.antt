@@ -4,7 +4,7 @@
 --   WideAt S K a        == the case of refusal 11: a sum is 2^63 or more, with every delay at its least at the low end, or at its greatest at the high end
 --   Judges t v          == v is the verdict on the table t
 --
--- Theorems: never-wide-at (refusal 11 never comes), verdict-exists, verdict-unique.
+-- Theorems: proper (every rule may have some delay), never-wide-at (refusal 11 never comes), verdict-exists, verdict-unique.
 use mathlib.Core.Path.{_≡_, refl, ap}
 use mathlib.Core.Logic.{_⊎_, ⊎-elim}
 use Prim.Native.Nat.{ℕ, _+_, _*_, _≤_, _<_, _^_}
@@ -43,7 +43,8 @@ Judges t flat = Within t × Live (shapeOf t) × NoLoop (shapeOf t)
 Judges t wide = Within t × Live (shapeOf t) × ((a : Answer) × Answers (shapeOf t) (rangesOf t) (t .n) a × WideAt (shapeOf t) (rangesOf t) a)
 Judges t (found a) = Within t × Live (shapeOf t) × Answers (shapeOf t) (rangesOf t) (t .n) a × (¬ (WideAt (shapeOf t) (rangesOf t) a))
 
-proper : (t : Table) → Proper (shapeOf t) (rangesOf t)
+-- every rule may have some delay
+pub proper : (t : Table) → Proper (shapeOf t) (rangesOf t)
 proper t = ranges-proper (shapeOf t) maxDelay (λ r. delayOf (getD (used t) r unusedRule .delay))
 
 -- NEVER WIDE

@@ -11,7 +11,7 @@ use crate::Lap;
 
 pub const LOOP: u32 = 5;
 
-const FLAT: u32 = 6;
+pub const FLAT: u32 = 6;
 
 pub fn refused(refusal: u32, place: usize) -> Lap
     ensures { λ r. ⌜ r ≡ refusedLap refusal place ⌝ }

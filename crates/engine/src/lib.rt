@@ -1,12 +1,14 @@
-// The engine: the lap of a table, the rate of one of its transitions, and whether a loop of it has no turn. What works on columns is in the crates `columns`, `search`, `peel` and `loops`.
-mod ends;
+// The engine: the lap of a table, and whether a loop of it has no turn. What works on columns is in the crates `columns`, `search`, `peel` and `loops`.
 mod laps;
-mod reach;
 
 ghost use Rattle.engine.specs.Lap.{LapOf};
-ghost use Rattle.engine.specs.Rate.{RateOf};
 ghost use Rattle.engine.specs.Turn.{TurnOf};
 use table::Table;
+
+// The rate of a transition (crate `rates`) has two ends too, and refuses by the same numbers.
+pub use laps::FLAT;
+pub use laps::LOOP;
+pub use laps::meet;
 
 // One end: its ratio in lowest terms, and its loop, the first `len` places of `rules`; the others hold 0.
 pub struct End {
@@ -44,53 +46,6 @@ pub fn measure(t: Table) -> Lap
         c.blank,
         t.m,
         t.n,
-    )
-}
-
-// A ratio in lowest terms.
-pub struct Ratio {
-    pub p: u64,
-    pub q: u64,
-}
-
-// Refused: number and place, and all else 0. Else the two ends of a transition's rate, and whether they meet.
-pub struct Rated {
-    pub refusal: u32,
-    pub place: usize,
-    pub exact: bool,
-    pub low: Ratio,
-    pub high: Ratio,
-}
-
-const NAME: u32 = 10;
-
-// The rate of transition v: its two ends; or refused 3, 10, 5, 6 or 11, in this order.
-pub fn rate(t: Table, v: usize) -> Rated
-    ensures { λ r. ⌜ RateOf t v r ⌝ }
-{
-    let checked = table::check(t);
-    if 0 < checked.refusal {
-        return ends::unrated(checked.refusal, checked.place);
-    }
-    let n = t.n;
-    if n <= v {
-        return ends::unrated(NAME, n);
-    }
-    let c = columns::lay(t);
-    let zero = loops::zero_loop(&c.source, &c.target, &c.offset, t.m, n);
-    if 0 < zero.len {
-        return ends::unrated(laps::LOOP, zero.at);
-    }
-    reach::ends_to(
-        &c.source,
-        &c.target,
-        &c.offset,
-        &c.least,
-        &c.greatest,
-        c.blank,
-        t.m,
-        n,
-        v,
     )
 }
 

@@ -6,7 +6,7 @@
 --   outcomeOf n v x l h      == the outcome for the verdict v, with n transitions and buffers x, l, h lent: 3, then 8, then 5, 6, 11
 --   AnalysisOf t x l h o     == THE PROMISE of `analyse`
 --
--- Theorem: analysis-unique (one outcome). The promise of `rate` is the engine's, `RateOf`.
+-- Theorem: analysis-unique (one outcome). The promise of `rate` is that of crate `rates`, `RateOf`.
 use mathlib.Core.Path.{_≡_, refl, sym, ap, _∙_}
 use mathlib.Core.Bool.{Bool, true, false}
 use mathlib.Core.List.{List, [], _∷_, _++_}

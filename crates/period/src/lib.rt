@@ -4,8 +4,8 @@ ghost use mathlib.Core.List.{_++_};
 ghost use Prim.Native.Nat.{ℕ, _≤_};
 ghost use lib.ListN.{length, take, drop};
 ghost use Rattle.period.specs.Promise.{outcome, refusedAnalysis, AnalysisOf};
-// The two ends of a transition's rate: the engine's call as it is.
-pub use engine::rate;
+// The two ends of a transition's rate: the call of `rates` as it is.
+pub use rates::rate;
 use table::Table;
 
 // One end: its ratio in lowest terms, and the length of its loop.

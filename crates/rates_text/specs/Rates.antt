@@ -30,8 +30,8 @@ use Rattle.rulefile.specs.declared.FileRead.{FileRead}
 use Rattle.rulefile.specs.File.{readOf}
 use Rattle.rulefile.specs.Length.{longest}
 use Rattle.rulefile.specs.First.{first-bytes}
-use Rattle.engine.specs.declared.Rated.{Rated}
-use Rattle.engine.specs.Rate.{refusedRate, RateOf, rate-unique}
+use Rattle.rates.specs.declared.Rated.{Rated}
+use Rattle.rates.specs.Rate.{refusedRate, RateOf, rate-unique}
 use Rattle.words.specs.declared.Text.{Text}
 use Rattle.words.specs.Decimal.{ascii, pick, numbers, numbers-append}
 use Rattle.words.specs.Puts.{Puts, puts-then, puts-same}

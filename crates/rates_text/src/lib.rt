@@ -1,15 +1,15 @@
 // The texts that the program `rate` prints for the bytes of a rule file: of one transition, and of all that share a rate.
-mod rates;
+mod line;
 
 ghost use mathlib.Core.Path.{_≡_};
 ghost use mathlib.Core.List.{[]};
 ghost use Prim.Native.Nat.{ℕ, _<_};
 ghost use lib.ListN.{length, getD};
-ghost use Rattle.engine.specs.Rate.{refusedRate, RateOf};
+ghost use Rattle.rates.specs.Rate.{refusedRate, RateOf};
 ghost use Rattle.words.specs.Held.{Holds};
 ghost use Rattle.rates_text.specs.Rates.{groupLine, FileRate, RateReport, noRate, ListingOf, GroupOf, moreTold, told};
-use engine::Rated;
-use engine::Ratio;
+use rates::Rated;
+use rates::Ratio;
 use table::Table;
 use words::Text;
 
@@ -44,7 +44,7 @@ pub fn rate(bytes: &[u8], v: usize) -> Text
 {
     let x = rate_in(bytes, v);
     let mut out = [0u8; Text::ROOM];
-    let at = rates::rate_words(x, &mut out, 0);
+    let at = line::rate_words(x, &mut out, 0);
     let len = words::byte(b'\n', &mut out, at);
     Text {
         len: len,
@@ -102,9 +102,9 @@ fn group_line(all: Listing, v: usize) -> Text
     let rates = all.rates;
     let mine = rates[v];
     let mut out = [0u8; Text::ROOM];
-    let a = rates::rate_words(mine, &mut out, 0);
+    let a = line::rate_words(mine, &mut out, 0);
     let b = words::word(b" of", &mut out, a);
-    let c = rates::members(rates, all.n, v, &mut out, b);
+    let c = line::members(rates, all.n, v, &mut out, b);
     let len = words::byte(b'\n', &mut out, c);
     Text {
         len: len,
@@ -123,7 +123,7 @@ pub fn group(all: Listing, v: usize) -> Text
         return nothing();
     }
     let rates = all.rates;
-    if rates::earlier(rates, v) {
+    if line::earlier(rates, v) {
         return nothing();
     }
     group_line(all, v)

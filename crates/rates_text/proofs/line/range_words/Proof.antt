@@ -1,0 +1,48 @@
+-- `rates_text::line::range_words` meets its contract: its parts one after the other. No loop. Assumes nothing.
+use native.Mathlib.Omega.{arith}
+use Rattle.words.specs.Puts.{puts-then}
+use borrow.Author.Needs.{needs}
+use Rattle.rates_text.proofs.line.range_words.Statement.{statement}
+use Rattle.rates_text.proofs.line.range_words.Tie as tie
+
+slice-aggregate-word : tie.Need-slice-aggregate-word
+slice-aggregate-word c = search needs
+
+word-requires : tie.Need-word-requires
+word-requires c κs = search needs
+
+ratio-requires : tie.Need-ratio-requires
+ratio-requires c κs = search needs
+
+slice-aggregate-word-2 : tie.Need-slice-aggregate-word-2
+slice-aggregate-word-2 c = search needs
+
+word-requires-2 : tie.Need-word-requires-2
+word-requires-2 c κs = search needs
+
+ratio-requires-2 : tie.Need-ratio-requires-2
+ratio-requires-2 c κs = search needs
+
+same-length : tie.Need-same-length
+same-length c = search needs
+
+returns : tie.Need-returns
+returns c =
+    let rate = c .before .before .before .before .before .before .before .before .before .before .before .before .before .before .before .word .ensures in
+    let low = c .before .before .before .before .before .before .before .before .before .before .before .ratio .ensures in
+    let to = c .before .before .before .before .before .before .word2 .ensures in
+    let high = c .before .before .ratio2 .ensures in
+    (puts-then rate (puts-then (low .0) (puts-then to (high .0))), omega (arith, rate .place, low .1, to .place, high .1))
+
+pub range-words-spec : {M : Type 1} → statement M
+range-words-spec =
+    tie.close
+    (tie.spec
+    slice-aggregate-word
+    word-requires
+    ratio-requires
+    slice-aggregate-word-2
+    word-requires-2
+    ratio-requires-2
+    same-length
+    returns)
