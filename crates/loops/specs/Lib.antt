@@ -1,3 +1,4 @@
+pub mod Links
 pub mod Listed
 pub mod Near
 pub mod Queue

@@ -183,16 +183,16 @@ module _ (S : Shape) (n v t x : ℕ) (d₀ order₀ : List ℕ) (k₀ : ℕ) (re
         more = h .more;
       }
 
-  -- rule r, from s, is looked at; the next one is below p
+  -- rule r, from s, is looked at; the next one is below p, and those between come from s too
   module _ (d order : List ℕ) (k left r s p : ℕ) (h : Looking S n v t x d₀ order₀ k₀ d order k left) (more : k < n) (is-rule : r < S.rules) (into : S.target r ≡ t) (from : s ≡ S.source r)
-      (below : s < n) (next : (q : ℕ) → q < r → S.target q ≡ t → q < p) where
+      (below : s < n) (next : (q : ℕ) → q < r → S.target q ≡ t → p ≤ q → S.source q ≡ S.source r) where
+    -- a rule into t from p to r comes from s: it is r, or passed over
+    passed : (q : ℕ) → S.target q ≡ t → p ≤ q → q ≤ r → S.source q ≡ s
+    passed q e a l = by-cases (ℕ-discrete q r) (λ f. ap (λ z. S.source z) f ∙ sym from) (λ f. next q (omega arith) e a ∙ sym from)
+
     seen-known : getD d s 0 < 512 → (q : ℕ) → q < S.rules → S.target q ≡ t → p ≤ q → left ≡ r + 1 → getD d (S.source q) 0 ≤ x
     seen-known l q b e a up =
-        by-cases (decLt q r)
-        (λ c. absurd (omega (arith, next q c e)))
-        (λ c. by-cases (ℕ-discrete q r)
-        (λ f. rw (f, ← from) (within d order k left h s below l))
-        (λ f. h .seen q b e (omega arith)))
+        by-cases (decLt r q) (λ c. h .seen q b e (omega arith)) (λ c. rw (passed q e a (omega arith)) (within d order k left h s below l))
 
     looking-known : left ≡ r + 1 → getD d s 0 < 512 → Looking S n v t x d₀ order₀ k₀ d (set order k s) k p
     looking-known up l =
@@ -232,11 +232,7 @@ module _ (S : Shape) (n v t x : ℕ) (d₀ order₀ : List ℕ) (k₀ : ℕ) (re
 
         seen : (q : ℕ) → q < S.rules → S.target q ≡ t → p ≤ q → getD (set d s x) (S.source q) 0 ≤ x
         seen q b e a =
-            by-cases (decLt q r)
-            (λ c. absurd (omega (arith, next q c e)))
-            (λ c. by-cases (ℕ-discrete q r)
-            (λ f. rw (f, ← from) (omega (arith, put)))
-            (λ f. fell (S.source q) (h .seen q b e (omega arith))))
+            by-cases (decLt r q) (λ c. fell (S.source q) (h .seen q b e (omega arith))) (λ c. rw (passed q e a (omega arith)) (omega (arith, put)))
 
     -- ONE RULE
     pub looking-next : left ≡ r + 1 → (d′ order′ : List ℕ) (k′ : ℕ) → Noted s x d d′ order order′ k k′ → Looking S n v t x d₀ order₀ k₀ d′ order′ k′ p

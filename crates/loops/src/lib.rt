@@ -3,12 +3,13 @@ ghost use mathlib.Core.Path.{_≡_};
 ghost use mathlib.Core.Bool.{true, false};
 ghost use mathlib.Core.List.{[]};
 ghost use Prim.Native.Nat.{ℕ, _+_, _-_, _*_, _^_, _≤_, _<_};
-ghost use lib.ListN.{getD, take};
+ghost use lib.ListN.{getD, take, replicate};
 ghost use Rattle.theory.specs.Schedule.{TightRule};
 ghost use Rattle.columns.specs.Columns.{shape, delayAt, Limits, Short};
 ghost use Rattle.peel.specs.Plain.{plain};
 ghost use Rattle.peel.specs.Linked.{Linked};
 ghost use Rattle.peel.specs.Peel.{Stays};
+ghost use Rattle.loops.specs.Links.{SameSource, Before};
 ghost use Rattle.loops.specs.Listed.{Listed, Gathered, Within};
 ghost use Rattle.loops.specs.Near.{awayFrom, Ways, followed};
 ghost use Rattle.loops.specs.Queue.{Noted, Searching, Looking, Sought};
@@ -144,6 +145,44 @@ fn gather(column: &[u16; 2048], list: &[u16; 2048], len: usize) -> [u16; 2048]
     picked
 }
 
+// What stands before rule r in its list, where `last` says the last rule into its target that was linked: that one; or, where it is rule r - 1 and comes from the same
+// transition, what stands before that one. `last` is compared first, and alone: most tables pay for nothing else.
+fn before_rule(source: &[u16; 2048], next: &[u16; 2048], r: usize, last: u16) -> u16
+    requires { ⌜ r < 2048 ⌝ }
+    ensures { λ x. ⌜ Before (now (source .entry)) (now (next .entry)) r last x ⌝ }
+{
+    if wide(last) == r {
+        if 0 < r {
+            if source[r] == source[r - 1] {
+                return next[r - 1];
+            }
+        }
+    }
+    last
+}
+
+// The rules into each transition, the last first: head[v] is 1 more than the last rule into v, next[r] than the one before r, and 0 where there is none. Of those that
+// stand one after the other and come from the same transition only the last is in the list: for distances they say the same.
+fn link_back(
+    source: &[u16; 2048],
+    target: &[u16; 2048],
+    len: usize,
+    head: &mut [u16; 256],
+    next: &mut [u16; 2048],
+)
+    requires { ⌜ (len ≤ 2048) × ((r : ℕ) → r < len → getD (now target) r 0 < 256) × (now head ≡ replicate 256 0) × (now next ≡ replicate 2048 0) ⌝ }
+    ensures { λ _. ⌜ Linked (SameSource (now (source .entry))) (now (target .entry)) len (now (head .exit)) (now (next .exit)) ⌝ }
+{
+    let mut r = 0;
+    while r < len {
+        let v = wide(target[r]);
+        let x = before_rule(source, next, r, head[v]);
+        next[r] = x;
+        r += 1;
+        head[v] = narrow(r);
+    }
+}
+
 // How far t is from v, where d is the least number of rules, 1 or more, from t to v.
 fn away(t: usize, v: usize, d: u16) -> usize
     ensures { λ r. ⌜ r ≡ awayFrom v t d ⌝ }
@@ -195,7 +234,7 @@ fn look_back(
     dist: &mut [u16; 256],
     order: &mut [u16; 256],
 ) -> usize
-    requires { ⌜ (Limits (now source) (now target) [] len n) × (Linked (now target) len (now head) (now next)) × (t < 256) ⌝ }
+    requires { ⌜ (Limits (now source) (now target) [] len n) × (Linked (SameSource (now source)) (now target) len (now head) (now next)) × (t < 256) ⌝ }
     requires { ⌜ Searching (plain (now source) (now target) len) n v t d (now dist) (now order) count ⌝ }
     ensures { λ r. ⌜ Looking (plain (now (source .entry)) (now (target .entry)) len) n v t d (now (dist .entry)) (now (order .entry)) count (now (dist .exit)) (now (order .exit)) r 0 ⌝ }
 {
@@ -213,7 +252,7 @@ fn look_back(
     found
 }
 
-// The least number of rules, 1 or more, from each transition to v: breadth first, so that each rule is looked at once, and none when all n were found.
+// The least number of rules, 1 or more, from each transition to v: breadth first, so that each rule is looked at once at most, and none when all n were found.
 fn near(
     source: &[u16; 2048],
     target: &[u16; 2048],
@@ -223,7 +262,7 @@ fn near(
     next: &[u16; 2048],
     v: usize,
 ) -> Distances
-    requires { ⌜ (Limits (now source) (now target) [] len n) × (Linked (now target) len (now head) (now next)) × (v < n) ⌝ }
+    requires { ⌜ (Limits (now source) (now target) [] len n) × (Linked (SameSource (now source)) (now target) len (now head) (now next)) × (v < n) ⌝ }
     ensures { λ r. ⌜ Sought (plain (now (source .entry)) (now (target .entry)) len) n v (r .dist) (r .count) ⌝ }
 {
     let mut dist = [512u16; 256];
@@ -287,7 +326,7 @@ pub fn distances_to(
 {
     let mut head = [0u16; 256];
     let mut next = [0u16; 2048];
-    peel::link(target, m, &mut head, &mut next);
+    link_back(source, target, m, &mut head, &mut next);
     near(source, target, m, n, &head, &next, v)
 }
 
@@ -364,7 +403,7 @@ fn seek_loop(
 {
     let mut head = [0u16; 256];
     let mut links = [0u16; 2048];
-    peel::link(target, len, &mut head, &mut links);
+    link_back(source, target, len, &mut head, &mut links);
     let mut at = 0;
     while at < n {
         if alive[at] == 1 {

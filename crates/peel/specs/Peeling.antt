@@ -16,7 +16,7 @@ use mathlib.Core.List.{List, [], _∷_, _++_}
 use Prim.Native.Nat.{ℕ, zero, suc, _+_, _-_, _≤_, _<_}
 use native.Mathlib.Omega.{arith}
 use native.Mathlib.Numerals.{add-one}
-use native.Mathlib.Decide.{ℕ-discrete}
+use native.Mathlib.Decide.{ℕ-discrete, decLt}
 use lib.ListN.{length, getD, set, replicate, getD-replicate, length-append}
 use lib.Seq.{getD-set-same, getD-set-other}
 use Rattle.model.specs.Shape.{Shape}
@@ -24,7 +24,7 @@ use Rattle.theory.specs.Relax.{zeros-at}
 use Rattle.columns.specs.Columns.{Limits}
 use Rattle.peel.specs.Plain.{plain}
 use Rattle.peel.specs.Sum.{sum, sum-but, sign, sign-some, sign-none, sign-most, total, total-set, inside}
-use Rattle.peel.specs.Linked.{Linked, Points, points-first, points-last, points-rule, points-next, points-all, Row, row-set}
+use Rattle.peel.specs.Linked.{Linked, NoneAlike, Points, points-first, points-last, points-rule, points-next, points-all, Row, row-set}
 use Rattle.peel.specs.Peel.{Entered, Left, Loose, StruckOut, Remnant}
 
 -- --------------------------------------------------------------------------------------------------------------------------------- counts
@@ -386,7 +386,7 @@ module _ (S : Shape) (n : ℕ) (alive entering order : List ℕ) (done k : ℕ) 
             enters = t .2 .0;
           }
 
-module _ (from to : List ℕ) (len n : ℕ) (limits : Limits from to [] len n) (head next : List ℕ) (linked : Linked from len head next) where
+module _ (from to : List ℕ) (len n : ℕ) (limits : Limits from to [] len n) (head next : List ℕ) (linked : Linked NoneAlike from len head next) where
   -- the next that waits is struck, and its rules are to be looked at
   pub spread-starts : (alive entering order : List ℕ) (done k v p : ℕ) → Spread (plain from to len) n 0 0 alive entering order done k → done < k → v ≡ getD order done 0 → p ≡ getD head v 0
       → Spread (plain from to len) n v p (set alive v 0) entering order (done + 1) k × (getD (set alive v 0) v 0 ≡ 0) × Points from len v p
@@ -430,7 +430,7 @@ module _ (from to : List ℕ) (len n : ℕ) (limits : Limits from to [] len n) (
       spread-points = (omega (arith, on), on .1)
 
       later : (q : ℕ) → q < r → getD from q 0 ≡ v → q < p
-      later = points-all from len head next linked v left points more p ep
+      later q l e = by-cases (decLt q p) (λ b. b) (λ b. absurd (points-all from len head next linked v left points more p ep q l e (omega arith)))
 
       less : getD alive w 0 ≡ 1 → (0 < getD entering w 0) × Tallied (plain from to len) alive v p len (set entering w (getD entering w 0 - 1))
       less = tallied-less (plain from to len) alive v r p entering tallied′ struck (at .0) (at .1) (on .0) later w ew

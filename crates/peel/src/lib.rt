@@ -7,7 +7,7 @@ ghost use Prim.Native.Nat.{ℕ, _≤_, _<_};
 ghost use lib.ListN.{getD, replicate};
 ghost use Rattle.columns.specs.Columns.{Limits};
 ghost use Rattle.peel.specs.Plain.{plain};
-ghost use Rattle.peel.specs.Linked.{Linked, Row};
+ghost use Rattle.peel.specs.Linked.{Linked, NoneAlike, Row};
 ghost use Rattle.peel.specs.Peeling.{Tallied, Waiting, Lessened, Spread, StruckNext, Stripped, Peeled};
 
 // The transitions that remain (1) and those struck (0), and how many were struck.
@@ -31,9 +31,9 @@ fn narrow(x: usize) -> u16
 }
 
 // The rules at each transition, by one of their ends: head[v] is 1 more than the last rule at v, next[r] than the one before r, and 0 where there is none.
-pub fn link(column: &[u16; 2048], len: usize, head: &mut [u16; 256], next: &mut [u16; 2048])
+fn link(column: &[u16; 2048], len: usize, head: &mut [u16; 256], next: &mut [u16; 2048])
     requires { ⌜ (len ≤ 2048) × ((r : ℕ) → r < len → getD (now column) r 0 < 256) × (now head ≡ replicate 256 0) × (now next ≡ replicate 2048 0) ⌝ }
-    ensures { λ _. ⌜ Linked (now (column .entry)) len (now (head .exit)) (now (next .exit)) ⌝ }
+    ensures { λ _. ⌜ Linked NoneAlike (now (column .entry)) len (now (head .exit)) (now (next .exit)) ⌝ }
 {
     let mut r = 0;
     while r < len {
@@ -146,7 +146,7 @@ fn strike_next(
     entering: &mut [u16; 256],
     order: &mut [u16; 256],
 ) -> usize
-    requires { ⌜ (Limits (now from) (now to) [] len n) × (Linked (now from) len (now head) (now next)) × (done < count) ⌝ }
+    requires { ⌜ (Limits (now from) (now to) [] len n) × (Linked NoneAlike (now from) len (now head) (now next)) × (done < count) ⌝ }
     requires { ⌜ Spread (plain (now from) (now to) len) n 0 0 (now alive) (now entering) (now order) done count ⌝ }
     ensures { λ r. ⌜ StruckNext (plain (now (from .entry)) (now (to .entry)) len) n (now (alive .entry)) (now (order .entry)) done (now (alive .exit)) (now (entering .exit)) (now (order .exit)) r ⌝ }
 {

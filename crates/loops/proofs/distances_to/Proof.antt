@@ -6,8 +6,8 @@ use borrow.Author.Needs.{needs}
 use Rattle.loops.proofs.distances_to.Statement.{statement}
 use Rattle.loops.proofs.distances_to.Tie as tie
 
-link-requires : tie.Need-link-requires
-link-requires c κs = let p = c .before .before .pre .0 in (p .few-rules, λ r l. omega (arith, p .fits r l, p .few-transitions), refl, refl)
+link-back-requires : tie.Need-link-back-requires
+link-back-requires c κs = let p = c .before .before .pre .0 in (p .few-rules, λ r l. omega (arith, p .fits r l, p .few-transitions), refl, refl)
 
 near-requires : tie.Need-near-requires
 near-requires c κs = search needs
@@ -16,4 +16,4 @@ returns : tie.Need-returns
 returns c = search needs
 
 pub distances-to-spec : {M : Type 1} → statement M
-distances-to-spec = tie.close (tie.spec link-requires near-requires returns)
+distances-to-spec = tie.close (tie.spec link-back-requires near-requires returns)

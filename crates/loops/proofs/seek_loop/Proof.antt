@@ -23,15 +23,15 @@ loop-holds c = (omega arith, λ w js l. absurd (omega arith))
 element-copy-out-if1 : tie.Need-element-copy-out-if1 Inv-loop μ-loop
 element-copy-out-if1 c = omega (arith, c .before .before .before .before .before .pre .0 .few-transitions)
 
-link-requires : tie.Need-link-requires Inv-loop μ-loop
-link-requires c κs = let p = c .before .before .pre .0 in (p .few-rules, λ r l. omega (arith, p .fits r l, p .few-transitions), refl, refl)
+link-back-requires : tie.Need-link-back-requires Inv-loop μ-loop
+link-back-requires c κs = let p = c .before .before .pre .0 in (p .few-rules, λ r l. omega (arith, p .fits r l, p .few-transitions), refl, refl)
 
 near-requires : tie.Need-near-requires Inv-loop μ-loop
 near-requires c κs =
     let l = c .before .before .before .before .before in
     let s = l .before .before .before .before in
     let a = s .args in
-    (s .pre .0, l .before .link .ensures, c .before .before .before .before .loop-test .taken)
+    (s .pre .0, l .before .link-back .ensures, c .before .before .before .before .loop-test .taken)
 
 mul-wide : tie.Need-mul-wide Inv-loop μ-loop
 mul-wide c = omega (arith, c .before .before .before .before .before .before .before .before .before .before .before .pre .0 .few-transitions)
@@ -96,7 +96,7 @@ seek-loop-spec =
     (tie.spec
     Inv-loop
     μ-loop
-    link-requires
+    link-back-requires
     loop-holds
     element-copy-out-if1
     near-requires

@@ -2,14 +2,14 @@
 -- The loop's invariant: the rules passed are linked. The measure is the number of rules left.
 -- Assumes nothing.
 use Prim.Native.Nat.{_-_, _≤_}
-use Rattle.peel.specs.Linked.{Linked, linked-none, linked-add}
+use Rattle.peel.specs.Linked.{Linked, NoneAlike, linked-none, linked-last}
 use mathlib.Core.Path.{_≡_, refl}
 use native.Mathlib.Omega.{arith}
 use Rattle.peel.proofs.link.Statement.{statement}
 use Rattle.peel.proofs.link.Tie as tie
 
 abbrev Inv-loop : tie.InvT-loop
-Inv-loop column len head₀ next₀ r₀ head next r = (r ≤ len) × Linked column r head next
+Inv-loop column len head₀ next₀ r₀ head next r = (r ≤ len) × Linked NoneAlike column r head next
 
 abbrev μ-loop : tie.MeasureT-loop
 μ-loop column len head₀ next₀ r₀ head next r = len - r
@@ -59,7 +59,7 @@ loop-again c =
     let l = w .before .before .before in
     let s = l .before in (
       omega arith,
-      linked-add (s .args .column .now) (l .loop .r) (l .loop .head) (l .loop .next) (l .loop .inv .1) (omega arith) (w .wide .result) _ (c .narrow .result) (w .wide .ensures) (omega (arith, w .wide .ensures, s .pre .1 (l .loop .r) (w .before .before .loop-test .taken))) refl (c .narrow .ensures),
+      linked-last (s .args .column .now) (l .loop .r) (l .loop .head) (l .loop .next) (l .loop .inv .1) (omega arith) (w .wide .result) _ (c .narrow .result) (w .wide .ensures) (omega (arith, w .wide .ensures, s .pre .1 (l .loop .r) (w .before .before .loop-test .taken))) (c .narrow .ensures) refl,
     )
 
 returns : tie.Need-returns Inv-loop μ-loop
