@@ -19,7 +19,7 @@ use Rattle.model.specs.Knot.{Knot}
 use Rattle.model.specs.Period.{Period}
 use Rattle.model.specs.Filling.{Given}
 use Rattle.model.specs.Answer.{Answer, Answers}
-use Rattle.theory.specs.Ends.{given-exact, high-unique}
+use Rattle.theory.specs.Ends.{period-steady, given-exact, high-unique}
 use Rattle.table.specs.declared.Table.{Table}
 use Rattle.table.specs.Fields.{Within, within-not-bad}
 use Rattle.table.specs.Meaning.{shapeOf, rangesOf}
@@ -72,5 +72,7 @@ module _ (t : Table) (w : Within t) (x l h : List ℕ) (r : Room t x l h) (o : O
 -- with all delays given
 pub given-exact-answer : (t : Table) (a : Answer) → Given (shapeOf t) (rangesOf t) → Answers (shapeOf t) (rangesOf t) (t .n) a → (a .lowP ≡ a .highP) × (a .lowQ ≡ a .highQ) × (a .exact ≡ true)
 given-exact-answer t a g x =
-    let same = high-unique (shapeOf t) (rangesOf t) (a .lowP) (a .lowQ) (a .highP) (a .highQ) (given-exact (shapeOf t) (rangesOf t) g (a .lowP) (a .lowQ) (x .low)) (x .high) in
+    let S = shapeOf t in
+    let K = rangesOf t in
+    let same = high-unique S K (Period S) (period-steady S) (a .lowP) (a .lowQ) (a .highP) (a .highQ) (given-exact S K (Period S) (period-steady S) g (a .lowP) (a .lowQ) (x .low)) (x .high) in
     (same .0, same .1, ⊎-elim (λ m. m .2) (λ m. absurd (m .0 (same .0, same .1))) (x .meet))

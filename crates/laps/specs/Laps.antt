@@ -18,10 +18,11 @@ use Rattle.model.specs.Schedule.{Keeps, Schedule, LeastSchedule}
 use Rattle.model.specs.Reported.{NotAfter, Reported}
 use Rattle.model.specs.Knot.{Knot}
 use Rattle.model.specs.Times.{IsTime}
-use Rattle.model.specs.Answer.{Answer, Exact, Answers}
+use Rattle.model.specs.Ends.{Exact}
+use Rattle.model.specs.Answer.{Answer, Answers}
 use Rattle.theory.specs.Filling.{ranges-proper}
 use Rattle.theory.specs.Period.{certified}
-use Rattle.theory.specs.Ends.{low-is, high-is}
+use Rattle.theory.specs.Ends.{period-steady, low-is, high-is}
 use Rattle.laps.specs.Lists.{Rule, rule, shapeOf, rangesOf, Says, answered, knotted, flat, Lap, Right, KeepsEach, kept, TimeEach, time, timed, untimed, lowest-one, lowest-7-2}
 
 -- ------------------------------------------------------------------------------------------------------------------------------------ the laps
@@ -127,14 +128,14 @@ only-reported S D P Q rs l a only =
 module _ (rs : List Rule) (n : ℕ) where
   answers : (p q P Q : ℕ) (loop X : List ℕ) (e : mathlib.Core.Bool.Bool) → let S = shapeOf rs in let K = rangesOf rs in
       Period S (K .least) p q → Lowest p q → Period S (K .greatest) P Q → Lowest P Q
-      → Exact (record { lowP = p; lowQ = q; highP = P; highQ = Q; exact = e; lowLoop = loop; highLoop = loop; schedule = X })
+      → Exact p q P Q e
       → Reported S (K .least) p q 0 loop → Reported S (K .greatest) P Q 0 loop → LeastSchedule S (K .greatest) n P Q X
       → Answers S K n (record { lowP = p; lowQ = q; highP = P; highQ = Q; exact = e; lowLoop = loop; highLoop = loop; schedule = X })
   answers p q P Q loop X e lp ll hp hl m lr hr ls =
       let proper = ranges-proper (shapeOf rs) 1000000 (λ r. getD rs r (rule 0 0 0 unknown) .delay) in
       record {
-        low = low-is (shapeOf rs) (rangesOf rs) proper p q lp ll;
-        high = high-is (shapeOf rs) (rangesOf rs) proper P Q hp hl;
+        low = low-is (shapeOf rs) (rangesOf rs) (Period (shapeOf rs)) (period-steady (shapeOf rs)) proper p q lp ll;
+        high = high-is (shapeOf rs) (rangesOf rs) (Period (shapeOf rs)) (period-steady (shapeOf rs)) proper P Q hp hl;
         meet = m;
         low-at = 0;
         low-loop = lr;

@@ -2,14 +2,13 @@
 --
 --   Answer          == the two ends, whether they meet, the two loops, the schedule
 --   Answers S K n a == a is the answer for the rules S of n transitions, whose delays may be what K says
-use mathlib.Core.Path.{_≡_}
-use mathlib.Core.Bool.{Bool, true, false}
-use mathlib.Core.Logic.{_⊎_}
+use mathlib.Core.Bool.{Bool}
 use mathlib.Core.List.{List}
 use Prim.Native.Nat.{ℕ}
 use Rattle.model.specs.Shape.{Shape}
 use Rattle.model.specs.Filling.{Ranges}
-use Rattle.model.specs.Ends.{LowEnd, HighEnd}
+use Rattle.model.specs.Period.{Period}
+use Rattle.model.specs.Ends.{LowEnd, HighEnd, Exact}
 use Rattle.model.specs.Schedule.{LeastSchedule}
 use Rattle.model.specs.Reported.{Reported}
 
@@ -23,15 +22,11 @@ pub record Answer : Type 0 where
   pub highLoop : List ℕ
   pub schedule : List ℕ
 
--- exact is said just where the ends are equal
-abbrev pub Exact : Answer → Type 0
-Exact a = ((a .lowP ≡ a .highP) × (a .lowQ ≡ a .highQ) × (a .exact ≡ true)) ⊎ (¬ ((a .lowP ≡ a .highP) × (a .lowQ ≡ a .highQ)) × (a .exact ≡ false))
-
 -- the low loop is the reported loop with every delay at its least, the high loop with every delay at its greatest; so is the schedule
 pub record Answers (S : Shape) (K : Ranges) (n : ℕ) (a : Answer) : Type 0 where
-  pub low : LowEnd S K (a .lowP) (a .lowQ)
-  pub high : HighEnd S K (a .highP) (a .highQ)
-  pub meet : Exact a
+  pub low : LowEnd S K (Period S) (a .lowP) (a .lowQ)
+  pub high : HighEnd S K (Period S) (a .highP) (a .highQ)
+  pub meet : Exact (a .lowP) (a .lowQ) (a .highP) (a .highQ) (a .exact)
   pub low-at : ℕ
   pub low-loop : Reported S K.least (a .lowP) (a .lowQ) low-at (a .lowLoop)
   pub high-at : ℕ

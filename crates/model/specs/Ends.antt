@@ -1,29 +1,39 @@
--- The two ends: the least and the greatest period over all fillings.
+-- The two ends: the least and the greatest quotient over all fillings, of the period or of a transition's rate.
+-- A measure M tells which quotients P/Q the delays D give: `Period S`, or `λ D. Rate S D v`.
 --
---   Attained S K P Q  == some filling has the period P/Q, in lowest terms
---   LowEnd S K P Q    == P/Q is the least period over all fillings
---   HighEnd S K P Q   == P/Q is the greatest
---   Narrows S K K′    == every rule may have no other delay under K′ than under K: some blanks were filled
+--   Attained S K M P Q  == some filling gives P/Q, in lowest terms
+--   LowEnd S K M P Q    == P/Q is the least that fillings give
+--   HighEnd S K M P Q   == P/Q is the greatest
+--   Exact P Q P′ Q′ e   == e tells whether the ends P/Q and P′/Q′ meet
+--   Narrows S K K′      == every rule may have no other delay under K′ than under K: some blanks were filled
 use mathlib.Core.Path.{_≡_}
+use mathlib.Core.Bool.{Bool, true, false}
+use mathlib.Core.Logic.{_⊎_}
 use Prim.Native.Nat.{ℕ, _*_, _≤_, _<_}
 use Rattle.model.specs.Shape.{Shape}
 use Rattle.model.specs.Ratio.{Lowest}
-use Rattle.model.specs.Period.{Period}
 use Rattle.model.specs.Filling.{Ranges, Filling}
 
-pub record Attained (S : Shape) (K : Ranges) (P Q : ℕ) : Type 0 where
+abbrev pub Measure : Type 1
+Measure = (ℕ → ℕ) → ℕ → ℕ → Type 0
+
+pub record Attained (S : Shape) (K : Ranges) (M : Measure) (P Q : ℕ) : Type 0 where
   pub D : ℕ → ℕ
   pub fills : Filling S K D
-  pub period : Period S D P Q
+  pub given : M D P Q
   pub lowest : Lowest P Q
 
-pub record LowEnd (S : Shape) (K : Ranges) (P Q : ℕ) : Type 0 where
-  pub attained : Attained S K P Q
-  pub least : (E : ℕ → ℕ) → Filling S K E → (P′ Q′ : ℕ) → Period S E P′ Q′ → P * Q′ ≤ P′ * Q
+pub record LowEnd (S : Shape) (K : Ranges) (M : Measure) (P Q : ℕ) : Type 0 where
+  pub attained : Attained S K M P Q
+  pub least : (E : ℕ → ℕ) → Filling S K E → (P′ Q′ : ℕ) → M E P′ Q′ → P * Q′ ≤ P′ * Q
 
-pub record HighEnd (S : Shape) (K : Ranges) (P Q : ℕ) : Type 0 where
-  pub attained : Attained S K P Q
-  pub greatest : (E : ℕ → ℕ) → Filling S K E → (P′ Q′ : ℕ) → Period S E P′ Q′ → P′ * Q ≤ P * Q′
+pub record HighEnd (S : Shape) (K : Ranges) (M : Measure) (P Q : ℕ) : Type 0 where
+  pub attained : Attained S K M P Q
+  pub greatest : (E : ℕ → ℕ) → Filling S K E → (P′ Q′ : ℕ) → M E P′ Q′ → P′ * Q ≤ P * Q′
+
+-- exact is said just where the ends are equal
+abbrev pub Exact : ℕ → ℕ → ℕ → ℕ → Bool → Type 0
+Exact P Q P′ Q′ e = ((P ≡ P′) × (Q ≡ Q′) × (e ≡ true)) ⊎ (¬ ((P ≡ P′) × (Q ≡ Q′)) × (e ≡ false))
 
 abbrev pub Narrows : Shape → Ranges → Ranges → Type 0
 Narrows S K K′ = (r : ℕ) → r < S.rules → (K.least r ≤ K′.least r) × (K′.greatest r ≤ K.greatest r)

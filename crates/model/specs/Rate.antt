@@ -6,23 +6,18 @@
 --   SomeLoopTo S v       == there is one
 --   NoLoopTo S v         == there is none
 --   Rate S D v P Q       == P/Q is the rate of v with the delays D, in some terms
---   RateAttained S K v P Q   == with some filling v has the rate P/Q, in lowest terms
---   LowRate S K v P Q    == P/Q is the least rate of v over all fillings
---   HighRate S K v P Q   == P/Q is the greatest
 --   RateRange            == the two ends of a rate, and whether they meet
 --   Rates S K v a        == a is the range of the rate of v
-use mathlib.Core.Path.{_≡_}
-use mathlib.Core.Bool.{Bool, true, false}
-use mathlib.Core.Logic.{_⊎_}
+use mathlib.Core.Bool.{Bool}
 use mathlib.Core.List.{List}
-use Prim.Native.Nat.{ℕ, _*_, _≤_, _<_}
+use Prim.Native.Nat.{ℕ, _<_}
 use Rattle.model.specs.Shape.{Shape}
 use Rattle.model.specs.Sums.{offsets}
 use Rattle.model.specs.Walk.{Walk}
 use Rattle.model.specs.Loop.{Loop}
-use Rattle.model.specs.Ratio.{Lowest}
 use Rattle.model.specs.Period.{Attains, NotAbove}
-use Rattle.model.specs.Filling.{Ranges, Filling}
+use Rattle.model.specs.Filling.{Ranges}
+use Rattle.model.specs.Ends.{LowEnd, HighEnd, Exact}
 
 pub record Reaches (S : Shape) (u v : ℕ) : Type 0 where
   pub way : List ℕ
@@ -51,22 +46,7 @@ pub record Rate (S : Shape) (D : ℕ → ℕ) (v P Q : ℕ) : Type 0 where
   pub attained : Attains S D P Q loop
   pub highest : (u : ℕ) (rs : List ℕ) → LoopTo S v u rs → NotAbove S D P Q rs
 
--- ---------------------------------------------------------------------------------------------------------------------------- over all fillings
-
-pub record RateAttained (S : Shape) (K : Ranges) (v P Q : ℕ) : Type 0 where
-  pub D : ℕ → ℕ
-  pub fills : Filling S K D
-  pub rate : Rate S D v P Q
-  pub lowest : Lowest P Q
-
-pub record LowRate (S : Shape) (K : Ranges) (v P Q : ℕ) : Type 0 where
-  pub attained : RateAttained S K v P Q
-  pub least : (E : ℕ → ℕ) → Filling S K E → (P′ Q′ : ℕ) → Rate S E v P′ Q′ → P * Q′ ≤ P′ * Q
-
-pub record HighRate (S : Shape) (K : Ranges) (v P Q : ℕ) : Type 0 where
-  pub attained : RateAttained S K v P Q
-  pub greatest : (E : ℕ → ℕ) → Filling S K E → (P′ Q′ : ℕ) → Rate S E v P′ Q′ → P′ * Q ≤ P * Q′
-
+-- the two ends of a rate, and whether they meet
 pub record RateRange : Type 0 where
   pub lowP : ℕ
   pub lowQ : ℕ
@@ -74,11 +54,8 @@ pub record RateRange : Type 0 where
   pub highQ : ℕ
   pub exact : Bool
 
--- exact is said just where the ends are equal
-abbrev pub ExactRate : RateRange → Type 0
-ExactRate a = ((a .lowP ≡ a .highP) × (a .lowQ ≡ a .highQ) × (a .exact ≡ true)) ⊎ (¬ ((a .lowP ≡ a .highP) × (a .lowQ ≡ a .highQ)) × (a .exact ≡ false))
-
+-- a is the range of the rate of v, over all fillings
 pub record Rates (S : Shape) (K : Ranges) (v : ℕ) (a : RateRange) : Type 0 where
-  pub low : LowRate S K v (a .lowP) (a .lowQ)
-  pub high : HighRate S K v (a .highP) (a .highQ)
-  pub meet : ExactRate a
+  pub low : LowEnd S K (λ D. Rate S D v) (a .lowP) (a .lowQ)
+  pub high : HighEnd S K (λ D. Rate S D v) (a .highP) (a .highQ)
+  pub meet : Exact (a .lowP) (a .lowQ) (a .highP) (a .highQ) (a .exact)

@@ -1,27 +1,24 @@
 -- The whole answer: there is one where every loop turns and there is a loop, and only one.
 --
---   exact-unique, answer-unique, answer-exists
-use mathlib.Core.Path.{_≡_, refl, sym, _∙_}
-use mathlib.Core.Bool.{Bool, true, false}
-use mathlib.Core.Logic.{_⊎_, inl, inr, by-cases, Dec·and}
+--   answer-unique, answer-exists
+use mathlib.Core.Path.{_≡_}
+use mathlib.Core.Bool.{Bool}
 use mathlib.Core.List.{List}
 use Prim.Native.Nat.{ℕ, _≤_, _<_}
 use native.Mathlib.Omega.{arith}
-use native.Mathlib.Decide.{ℕ-discrete}
 use Rattle.model.specs.Shape.{Shape, Fits}
 use Rattle.model.specs.Loop.{SomeLoop, Live}
-use Rattle.model.specs.Ratio.{Lowest}
 use Rattle.model.specs.Period.{Period}
 use Rattle.model.specs.Filling.{Ranges}
 use Rattle.model.specs.Reported.{Reported}
 use Rattle.model.specs.Schedule.{LeastSchedule}
-use Rattle.model.specs.Answer.{Answer, Exact, Answers}
+use Rattle.model.specs.Answer.{Answer, Answers}
 use Rattle.theory.specs.Relax.{values}
 use Rattle.theory.specs.Schedule.{least-unique}
 use Rattle.theory.specs.Period.{period-exists, period-schedule}
 use Rattle.theory.specs.Reported.{reported-unique, reported-exists}
 use Rattle.theory.specs.Filling.{Proper}
-use Rattle.theory.specs.Ends.{low-unique, high-unique, low-is, high-is}
+use Rattle.theory.specs.Ends.{period-steady, low-unique, high-unique, exact-unique, exact-exists, low-is, high-is}
 
 abbrev answer : ℕ → ℕ → ℕ → ℕ → Bool → List ℕ → List ℕ → List ℕ → Answer
 answer a b c d e l h x = record { lowP = a; lowQ = b; highP = c; highQ = d; exact = e; lowLoop = l; highLoop = h; schedule = x }
@@ -29,22 +26,16 @@ answer a b c d e l h x = record { lowP = a; lowQ = b; highP = c; highQ = d; exac
 same : {a b c d a′ b′ c′ d′ : ℕ} {e e′ : Bool} {l h x l′ h′ x′ : List ℕ} → a ≡ a′ → b ≡ b′ → c ≡ c′ → d ≡ d′ → e ≡ e′ → l ≡ l′ → h ≡ h′ → x ≡ x′ → answer a b c d e l h x ≡ answer a′ b′ c′ d′ e′ l′ h′ x′
 same q1 q2 q3 q4 q5 q6 q7 q8 = cc
 
-pub exact-unique : (a b : Answer) → a .lowP ≡ b .lowP → a .lowQ ≡ b .lowQ → a .highP ≡ b .highP → a .highQ ≡ b .highQ → Exact a → Exact b → a .exact ≡ b .exact
-exact-unique a b p q P Q (inl x) (inl y) = x .2 ∙ sym (y .2)
-exact-unique a b p q P Q (inr x) (inr y) = x .1 ∙ sym (y .1)
-exact-unique a b p q P Q (inl x) (inr y) = absurd (y .0 (sym p ∙ x .0 ∙ P, sym q ∙ x .1 ∙ Q))
-exact-unique a b p q P Q (inr x) (inl y) = absurd (x .0 (p ∙ y .0 ∙ sym P, q ∙ y .1 ∙ sym Q))
-
 module _ (S : Shape) (K : Ranges) (n : ℕ) where
   -- ONLY ONE: each part is
   pub answer-unique : (a b : Answer) → Answers S K n a → Answers S K n b → a ≡ b
   answer-unique a b x y =
-      let lo = low-unique S K _ _ _ _ (x .low) (y .low) in
-      let hi = high-unique S K _ _ _ _ (x .high) (y .high) in
+      let lo = low-unique S K (Period S) (period-steady S) _ _ _ _ (x .low) (y .low) in
+      let hi = high-unique S K (Period S) (period-steady S) _ _ _ _ (x .high) (y .high) in
       let lr : Reported S K.least (a .lowP) (a .lowQ) (y .low-at) (b .lowLoop) = rw (lo .0, lo .1) (y .low-loop) in
       let hr : Reported S K.greatest (a .highP) (a .highQ) (y .high-at) (b .highLoop) = rw (hi .0, hi .1) (y .high-loop) in
       let hs : LeastSchedule S K.greatest n (a .highP) (a .highQ) (b .schedule) = rw (hi .0, hi .1) (y .schedule) in
-      same (lo .0) (lo .1) (hi .0) (hi .1) (exact-unique a b (lo .0) (lo .1) (hi .0) (hi .1) (x .meet) (y .meet))
+      same (lo .0) (lo .1) (hi .0) (hi .1) (exact-unique (lo .0) (lo .1) (hi .0) (hi .1) (x .meet) (y .meet))
       (reported-unique S _ _ _ _ _ _ _ (x .low-loop) lr .1)
       (reported-unique S _ _ _ _ _ _ _ (x .high-loop) hr .1)
       (least-unique S _ n _ _ _ _ (x .schedule) hs)
@@ -59,9 +50,16 @@ module _ (S : Shape) (K : Ranges) (n : ℕ) where
       let hs = period-schedule S K.greatest P Q hp n fits in
       let (u, rs, ru) = reported-exists S K.least p q (values S K.least p q n n) (ls .is-schedule .keeps) n fits lp in
       let (w, qs, rq) = reported-exists S K.greatest P Q (values S K.greatest P Q n n) (hs .is-schedule .keeps) n fits hp in
-      let make : (e : Bool) → Exact (answer p q P Q e rs qs (values S K.greatest P Q n n)) → (a : Answer) × Answers S K n a =
-      λ e m. (
+      let (e, m) = exact-exists p q P Q in (
         answer p q P Q e rs qs (values S K.greatest P Q n n),
-        record { low = low-is S K proper p q lp ll; high = high-is S K proper P Q hp hl; meet = m; low-at = u; low-loop = ru; high-at = w; high-loop = rq; schedule = hs },
-      ) in
-      by-cases (Dec·and (ℕ-discrete p P) (ℕ-discrete q Q)) (λ s. make true (inl (s .0, s .1, refl {a = true}))) (λ d. make false (inr (d, refl {a = false})))
+        record {
+          low = low-is S K (Period S) (period-steady S) proper p q lp ll;
+          high = high-is S K (Period S) (period-steady S) proper P Q hp hl;
+          meet = m;
+          low-at = u;
+          low-loop = ru;
+          high-at = w;
+          high-loop = rq;
+          schedule = hs;
+        },
+      )

@@ -4,22 +4,22 @@
 --   steered S f               == the rules S with the sources f
 --   Steers S v f              == f leaves a rule whose target reaches v its source, and has every other rule start at v
 --   loop-steered, loop-plain  the loops of the steered rules are the loops that reach v
---   rate-steered, rate-plain  so the rate of v is their period; low-, high-: and so it is for the two ends
+--   rate-steered, rate-plain  so the rate of v is their period
 --   reaches-or-not, steering  whether u reaches v is decided, so there is such an f
---   rate-unique, low-rate-unique, high-rate-unique, rates-unique     one rate, one low end, one high end, one range
---   rates-exist               every loop turns and one reaches v: there is a range, in lowest terms
---   low-rate-is, high-rate-is attained by the least and by the greatest delays; low-rate-at, high-rate-at: and only at that ratio
+--   rate-unique, rates-unique one rate, one range
+--   rate-steady               longer delays give no lower rate: what theory/Ends says of ends holds of those of a rate
+--   rate-exists, rates-exist  every loop turns and one reaches v: there is a rate, in lowest terms, and a range
 --   loop-onward, rate-rises   a rate never falls along rules
 --   visited, rate-shared, rates-shared       transitions on one loop share their rate
 --   rate-within, period-rate  no rate is above the period, and the transitions of a loop that attains the period have it as their rate
 use mathlib.Core.Path.{_≡_, refl, sym, ap, _∙_, subst}
-use mathlib.Core.Bool.{Bool, true, false}
-use mathlib.Core.Logic.{_⊎_, inl, inr, ⊎-elim, by-cases, Dec·and}
+use mathlib.Core.Bool.{Bool}
+use mathlib.Core.Logic.{_⊎_, inl, inr, ⊎-elim, by-cases}
 use mathlib.Core.List.{List, [], _∷_, _++_}
 use Prim.Native.Nat.{ℕ, suc, _+_, _*_, _≤_, _<_}
 use native.Mathlib.Omega.{arith}
 use native.Mathlib.Nat.{mul-le-mul-left, le-of-mul-le-mul-right}
-use native.Mathlib.Decide.{ℕ-discrete, decLt}
+use native.Mathlib.Decide.{decLt}
 use lib.ListN.{length}
 use Rattle.model.specs.Shape.{Shape, Fits}
 use Rattle.model.specs.Sums.{offsets}
@@ -29,17 +29,14 @@ use Rattle.model.specs.Loop.{Loop, SomeLoop, NoLoop, Live}
 use Rattle.model.specs.Ratio.{Lowest}
 use Rattle.model.specs.Period.{Period}
 use Rattle.model.specs.Filling.{Ranges}
-use Rattle.model.specs.Ends.{LowEnd, HighEnd}
-use Rattle.model.specs.Answer.{Answer}
-use Rattle.model.specs.Rate.{Reaches, LoopTo, SomeLoopTo, NoLoopTo, Rate, LowRate, HighRate, RateRange, ExactRate, Rates}
+use Rattle.model.specs.Rate.{Reaches, LoopTo, SomeLoopTo, NoLoopTo, Rate, RateRange, Rates}
 use Rattle.theory.specs.Search.{none-or-first}
 use Rattle.theory.specs.Walk.{walk-append, walk-split, path-short, LoopAbove, Shortened, shorten}
 use Rattle.theory.specs.First.{FirstRoute, no-or-first, first-route}
 use Rattle.theory.specs.Near.{Any, all-any}
-use Rattle.theory.specs.Period.{period-unique}
+use Rattle.theory.specs.Period.{slower, period-unique, period-exists}
 use Rattle.theory.specs.Filling.{Proper}
-use Rattle.theory.specs.Ends.{low-unique, high-unique, low-is, high-is, ends-exist, low-at-least, high-at-greatest}
-use Rattle.theory.specs.Answer.{exact-unique}
+use Rattle.theory.specs.Ends.{Steady, low-unique, high-unique, exact-unique, exact-exists, low-is, high-is}
 
 pub reach-here : (S : Shape) (v : ℕ) → Reaches S v v
 reach-here S v = record { way = []; leads = refl }
@@ -131,40 +128,6 @@ module _ (S : Shape) (v : ℕ) (f : ℕ → ℕ) (steers : Steers S v f) where
         highest = λ u rs l. omega (arith, x .highest u rs (loop-steered u rs l), ap (λ o. P * o) (steered-offsets rs));
       }
 
-  -- and its two ends are theirs
-  module _ (K : Ranges) (P Q : ℕ) where
-    pub low-steered : LowRate S K v P Q → LowEnd (steered S f) K P Q
-    low-steered x =
-        let a = x .attained in
-        record {
-          attained = record { D = a .D; fills = a .fills; period = rate-steered (a .D) P Q (a .rate); lowest = a .lowest };
-          least = λ E e P′ Q′ p. x .least E e P′ Q′ (rate-plain E P′ Q′ p);
-        }
-
-    pub low-plain : LowEnd (steered S f) K P Q → LowRate S K v P Q
-    low-plain x =
-        let a = x .attained in
-        record {
-          attained = record { D = a .D; fills = a .fills; rate = rate-plain (a .D) P Q (a .period); lowest = a .lowest };
-          least = λ E e P′ Q′ p. x .least E e P′ Q′ (rate-steered E P′ Q′ p);
-        }
-
-    pub high-steered : HighRate S K v P Q → HighEnd (steered S f) K P Q
-    high-steered x =
-        let a = x .attained in
-        record {
-          attained = record { D = a .D; fills = a .fills; period = rate-steered (a .D) P Q (a .rate); lowest = a .lowest };
-          greatest = λ E e P′ Q′ p. x .greatest E e P′ Q′ (rate-plain E P′ Q′ p);
-        }
-
-    pub high-plain : HighEnd (steered S f) K P Q → HighRate S K v P Q
-    high-plain x =
-        let a = x .attained in
-        record {
-          attained = record { D = a .D; fills = a .fills; rate = rate-plain (a .D) P Q (a .period); lowest = a .lowest };
-          greatest = λ E e P′ Q′ p. x .greatest E e P′ Q′ (rate-steered E P′ Q′ p);
-        }
-
   -- what else is said of all loops
   pub live-steered : Live S → Live (steered S f)
   live-steered live u rs l = omega (arith, live u rs (loop-plain u rs l .is-loop), steered-offsets rs)
@@ -222,53 +185,39 @@ module _ (S : Shape) (n : ℕ) (fits : Fits S n) (v : ℕ) where
   pub rate-unique : (D : ℕ → ℕ) (P Q P′ Q′ : ℕ) → Rate S D v P Q → Lowest P Q → Rate S D v P′ Q′ → Lowest P′ Q′ → (P ≡ P′) × (Q ≡ Q′)
   rate-unique D P Q P′ Q′ a l b m = period-unique (steered S f) D P Q P′ Q′ (rate-steered S v f s D P Q a) l (rate-steered S v f s D P′ Q′ b) m
 
-  module _ (K : Ranges) where
-    pub low-rate-unique : (P Q P′ Q′ : ℕ) → LowRate S K v P Q → LowRate S K v P′ Q′ → (P ≡ P′) × (Q ≡ Q′)
-    low-rate-unique P Q P′ Q′ a b = low-unique (steered S f) K P Q P′ Q′ (low-steered S v f s K P Q a) (low-steered S v f s K P′ Q′ b)
+  -- LONGER DELAYS GIVE NO LOWER RATE, so that what is said of ends holds of those of a rate
+  pub rate-steady : Steady S (λ D. Rate S D v)
+  rate-steady =
+      record {
+        Q-pos = λ D P Q x. x .Q-pos;
+        rising = λ D E longer P Q P′ Q′ x y. slower (steered S f) D E longer P Q P′ Q′ (rate-steered S v f s D P Q x) (rate-steered S v f s E P′ Q′ y);
+      }
 
-    pub high-rate-unique : (P Q P′ Q′ : ℕ) → HighRate S K v P Q → HighRate S K v P′ Q′ → (P ≡ P′) × (Q ≡ Q′)
-    high-rate-unique P Q P′ Q′ a b = high-unique (steered S f) K P Q P′ Q′ (high-steered S v f s K P Q a) (high-steered S v f s K P′ Q′ b)
+  same : {a b c d a′ b′ c′ d′ : ℕ} {e e′ : Bool} → a ≡ a′ → b ≡ b′ → c ≡ c′ → d ≡ d′ → e ≡ e′ → _≡_ {A = RateRange} (record { lowP = a; lowQ = b; highP = c; highQ = d; exact = e }) (record { lowP = a′; lowQ = b′; highP = c′; highQ = d′; exact = e′ })
+  same q1 q2 q3 q4 q5 = cc
 
-    abbrev asAnswer : RateRange → Answer
-    asAnswer a = record { lowP = a .lowP; lowQ = a .lowQ; highP = a .highP; highQ = a .highQ; exact = a .exact; lowLoop = []; highLoop = []; schedule = [] }
+  pub rates-unique : (K : Ranges) (a b : RateRange) → Rates S K v a → Rates S K v b → a ≡ b
+  rates-unique K a b x y =
+      let l = low-unique S K (λ D. Rate S D v) rate-steady _ _ _ _ (x .low) (y .low) in
+      let h = high-unique S K (λ D. Rate S D v) rate-steady _ _ _ _ (x .high) (y .high) in
+      same (l .0) (l .1) (h .0) (h .1) (exact-unique (l .0) (l .1) (h .0) (h .1) (x .meet) (y .meet))
 
-    same : {a b c d a′ b′ c′ d′ : ℕ} {e e′ : Bool} → a ≡ a′ → b ≡ b′ → c ≡ c′ → d ≡ d′ → e ≡ e′ → _≡_ {A = RateRange} (record { lowP = a; lowQ = b; highP = c; highQ = d; exact = e }) (record { lowP = a′; lowQ = b′; highP = c′; highQ = d′; exact = e′ })
-    same q1 q2 q3 q4 q5 = cc
+  module _ (b : v < n) (E M : ℕ) (off : (r : ℕ) → r < S.rules → S.offset r ≤ E) (live : Live S) (some : SomeLoopTo S v) where
+    -- THERE IS A RATE
+    pub rate-exists : (D : ℕ → ℕ) → ((r : ℕ) → r < S.rules → D r ≤ M) → (P : ℕ) × (Q : ℕ) × Rate S D v P Q × Lowest P Q
+    rate-exists D most =
+        let (p, q, x, l) = period-exists (steered S f) n (fits-steered S v f s n b fits) E M off D most (live-steered S v f s live) (some-steered S v f s some) in
+        (p, q, rate-plain S v f s D p q x, l)
 
-    pub rates-unique : (a b : RateRange) → Rates S K v a → Rates S K v b → a ≡ b
-    rates-unique a b x y =
-        let l = low-rate-unique _ _ _ _ (x .low) (y .low) in
-        let h = high-rate-unique _ _ _ _ (x .high) (y .high) in
-        same (l .0) (l .1) (h .0) (h .1) (exact-unique (asAnswer a) (asAnswer b) (l .0) (l .1) (h .0) (h .1) (x .meet) (y .meet))
-
-    module _ (proper : Proper S K) where
-      -- ATTAINED BY THE LEAST AND BY THE GREATEST DELAYS
-      pub low-rate-is : (P Q : ℕ) → Rate S K.least v P Q → Lowest P Q → LowRate S K v P Q
-      low-rate-is P Q x l = low-plain S v f s K P Q (low-is (steered S f) K proper P Q (rate-steered S v f s K.least P Q x) l)
-
-      pub high-rate-is : (P Q : ℕ) → Rate S K.greatest v P Q → Lowest P Q → HighRate S K v P Q
-      high-rate-is P Q x l = high-plain S v f s K P Q (high-is (steered S f) K proper P Q (rate-steered S v f s K.greatest P Q x) l)
-
-      module _ (b : v < n) (E M : ℕ) (off : (r : ℕ) → r < S.rules → S.offset r ≤ E) (most : (r : ℕ) → r < S.rules → K.greatest r ≤ M) (live : Live S) where
-        pub low-rate-at : (P Q : ℕ) → LowRate S K v P Q → Rate S K.least v P Q
-        low-rate-at P Q x =
-            rate-plain S v f s K.least P Q
-            (low-at-least (steered S f) K proper n E M (fits-steered S v f s n b fits) off most (live-steered S v f s live) P Q (low-steered S v f s K P Q x))
-
-        pub high-rate-at : (P Q : ℕ) → HighRate S K v P Q → Rate S K.greatest v P Q
-        high-rate-at P Q x =
-            rate-plain S v f s K.greatest P Q
-            (high-at-greatest (steered S f) K proper n E M (fits-steered S v f s n b fits) off most (live-steered S v f s live) P Q (high-steered S v f s K P Q x))
-
-        -- THERE IS A RANGE
-        pub rates-exist : SomeLoopTo S v → (a : RateRange) × Rates S K v a
-        rates-exist some =
-            let e = ends-exist (steered S f) K proper n E M (fits-steered S v f s n b fits) off most (live-steered S v f s live) (some-steered S v f s some) in
-            let (p, q, l) = e .0 in
-            let (P, Q, h) = e .1 in
-            let make : (e : Bool) → ExactRate (record { lowP = p; lowQ = q; highP = P; highQ = Q; exact = e }) → (a : RateRange) × Rates S K v a =
-            λ e m. (record { lowP = p; lowQ = q; highP = P; highQ = Q; exact = e }, record { low = low-plain S v f s K p q l; high = high-plain S v f s K P Q h; meet = m }) in
-            by-cases (Dec·and (ℕ-discrete p P) (ℕ-discrete q Q)) (λ i. make true (inl (i .0, i .1, refl {a = true}))) (λ d. make false (inr (d, refl {a = false})))
+    -- AND A RANGE
+    pub rates-exist : (K : Ranges) → Proper S K → ((r : ℕ) → r < S.rules → K.greatest r ≤ M) → (a : RateRange) × Rates S K v a
+    rates-exist K proper most =
+        let (p, q, x, l) = rate-exists K.least (λ r c. omega (arith, proper r c, most r c)) in
+        let (P, Q, y, h) = rate-exists K.greatest most in
+        let (e, m) = exact-exists p q P Q in (
+          record { lowP = p; lowQ = q; highP = P; highQ = Q; exact = e },
+          record { low = low-is S K (λ D. Rate S D v) rate-steady proper p q x l; high = high-is S K (λ D. Rate S D v) rate-steady proper P Q y h; meet = m },
+        )
 
 -- ---------------------------------------------------------------------------------------------------------------------- rates of several transitions
 
@@ -315,11 +264,11 @@ module _ (S : Shape) (K : Ranges) (u w : ℕ) (to : Reaches S u w) (back : Reach
       let h = x .high .attained in
       record {
         low = record {
-          attained = record { D = l .D; fills = l .fills; rate = rate-shared S u w to back (l .D) _ _ (l .rate); lowest = l .lowest };
+          attained = record { D = l .D; fills = l .fills; given = rate-shared S u w to back (l .D) _ _ (l .given); lowest = l .lowest };
           least = λ E e P Q p. x .low .least E e P Q (rate-shared S w u back to E P Q p);
         };
         high = record {
-          attained = record { D = h .D; fills = h .fills; rate = rate-shared S u w to back (h .D) _ _ (h .rate); lowest = h .lowest };
+          attained = record { D = h .D; fills = h .fills; given = rate-shared S u w to back (h .D) _ _ (h .given); lowest = h .lowest };
           greatest = λ E e P Q p. x .high .greatest E e P Q (rate-shared S w u back to E P Q p);
         };
         meet = x .meet;

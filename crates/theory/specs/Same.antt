@@ -14,7 +14,7 @@ use Rattle.model.specs.Period.{Attains, Period}
 use Rattle.model.specs.Schedule.{Keeps, Schedule, LeastSchedule}
 use Rattle.model.specs.Reported.{Reported}
 use Rattle.model.specs.Filling.{Ranges, Filling}
-use Rattle.model.specs.Ends.{LowEnd, HighEnd}
+use Rattle.model.specs.Ends.{Measure, LowEnd, HighEnd}
 use Rattle.model.specs.Answer.{Answer, Answers}
 
 module _ (S : Shape) (D E : ℕ → ℕ) (same : (r : ℕ) → r < S.rules → D r ≡ E r) where
@@ -64,25 +64,25 @@ module _ (S : Shape) (K K′ : Ranges) (least : (r : ℕ) → r < S.rules → K.
   filling-back : (D : ℕ → ℕ) → Filling S K′ D → Filling S K D
   filling-back D f r b = omega (arith, f r b, least r b, greatest r b)
 
-  pub low-same : (P Q : ℕ) → LowEnd S K P Q → LowEnd S K′ P Q
-  low-same P Q x =
+  pub low-same : (M : Measure) (P Q : ℕ) → LowEnd S K M P Q → LowEnd S K′ M P Q
+  low-same M P Q x =
       record {
-        attained = record { D = x .attained .D; fills = filling-same _ (x .attained .fills); period = x .attained .period; lowest = x .attained .lowest };
+        attained = record { D = x .attained .D; fills = filling-same _ (x .attained .fills); given = x .attained .given; lowest = x .attained .lowest };
         least = λ E f. x .least E (filling-back E f);
       }
 
-  pub high-same : (P Q : ℕ) → HighEnd S K P Q → HighEnd S K′ P Q
-  high-same P Q x =
+  pub high-same : (M : Measure) (P Q : ℕ) → HighEnd S K M P Q → HighEnd S K′ M P Q
+  high-same M P Q x =
       record {
-        attained = record { D = x .attained .D; fills = filling-same _ (x .attained .fills); period = x .attained .period; lowest = x .attained .lowest };
+        attained = record { D = x .attained .D; fills = filling-same _ (x .attained .fills); given = x .attained .given; lowest = x .attained .lowest };
         greatest = λ E f. x .greatest E (filling-back E f);
       }
 
   pub answers-same : (n : ℕ) (a : Answer) → Answers S K n a → Answers S K′ n a
   answers-same n a x =
       record {
-        low = low-same _ _ (x .low);
-        high = high-same _ _ (x .high);
+        low = low-same (Period S) _ _ (x .low);
+        high = high-same (Period S) _ _ (x .high);
         meet = x .meet;
         low-at = x .low-at;
         low-loop = reported-same S K.least K′.least least _ _ _ _ (x .low-loop);
