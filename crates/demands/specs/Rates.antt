@@ -9,19 +9,21 @@
 --   rates-within         neither end is above the table's
 --   low-attained, high-attained    and some transition has it as its own
 use mathlib.Core.Path.{_≡_, sym, ap, _∙_, subst}
-use mathlib.Core.List.{[]}
 use Prim.Native.Nat.{ℕ, _*_, _≤_, _<_}
 use native.Mathlib.Omega.{arith}
 use Rattle.model.specs.Shape.{Shape, Fits}
 use Rattle.model.specs.Loop.{Live}
 use Rattle.model.specs.Knot.{Knot}
+use Rattle.model.specs.Ratio.{Lowest}
 use Rattle.model.specs.Period.{Period}
+use Rattle.model.specs.Ends.{LowEnd, HighEnd}
 use Rattle.model.specs.Answer.{Answer, Answers}
-use Rattle.model.specs.Rate.{SomeLoopTo, NoLoopTo, Rate, LowRate, HighRate, RateRange, Rates}
+use Rattle.model.specs.Rate.{SomeLoopTo, NoLoopTo, Rate, RateRange, Rates}
 use Rattle.theory.specs.Loop.{loop-start}
 use Rattle.theory.specs.Knot.{knot-not-live}
-use Rattle.theory.specs.Ends.{low-at-least, high-at-greatest}
-use Rattle.theory.specs.Rate.{steered, steering, low-steered, high-steered, low-rate-is, high-rate-is, low-rate-at, high-rate-at, rule-reaches, rate-rises, rate-within, period-rate}
+use Rattle.theory.specs.Period.{period-exists}
+use Rattle.theory.specs.Ends.{period-steady, low-is, high-is, low-at-least, high-at-greatest}
+use Rattle.theory.specs.Rate.{rate-steady, rate-exists, rule-reaches, rate-rises, rate-within, period-rate}
 use Rattle.table.specs.declared.Table.{Table}
 use Rattle.table.specs.Limits.{maxOffset, maxDelay}
 use Rattle.table.specs.Fields.{Within, within-not-bad}
@@ -65,9 +67,6 @@ module _ (t : Table) (w : Within t) (v : ℕ) (b : v < t .n) (r : Rated) (is : R
 
 -- ------------------------------------------------------------------------------------------------------------------------------------ blanks filled
 
-abbrev pub asAnswer : RateRange → Answer
-asAnswer a = record { lowP = a .lowP; lowQ = a .lowQ; highP = a .highP; highQ = a .highQ; exact = a .exact; lowLoop = []; highLoop = []; schedule = [] }
-
 abbrev pub InwardRate : RateVerdict → RateVerdict → Type 0
 InwardRate (bad-field j) y = y ≡ bad-field j
 InwardRate no-name y = y ≡ no-name
@@ -79,19 +78,16 @@ InwardRate (rated a) no-name = ⊥
 InwardRate (rated a) (knot-at u) = ⊥
 InwardRate (rated a) unreached = ⊥
 InwardRate (rated a) too-wide = ⊥
-InwardRate (rated a) (rated b) = EndsInward (asAnswer a) (asAnswer b)
+InwardRate (rated a) (rated b) = EndsInward a b
 
 module _ (t t′ : Table) (f : Filled t t′) (v : ℕ) where
   named : v < t .n → v < t′ .n
   named b = omega (arith, f .n-same)
 
-  -- both rates are periods of the same rules, steered alike
-  inward : (a b : RateRange) → Within t → Rates (shapeOf t) (rangesOf t) v a → Rates (shapeOf t) (rangesOf t′) v b → EndsInward (asAnswer a) (asAnswer b)
+  inward : (a b : RateRange) → Within t → Rates (shapeOf t) (rangesOf t) v a → Rates (shapeOf t) (rangesOf t′) v b → EndsInward a b
   inward a b w x y =
-      let (g, s) = steering (shapeOf t) (t .n) (within-fits t w) v in
-      ends-inward (steered (shapeOf t) g) (rangesOf t) (rangesOf t′) (narrows-filled t t′ f w) (asAnswer a) (asAnswer b)
-      (low-steered (shapeOf t) v g s (rangesOf t) _ _ (x .low)) (high-steered (shapeOf t) v g s (rangesOf t) _ _ (x .high)) (x .meet)
-      (low-steered (shapeOf t) v g s (rangesOf t′) _ _ (y .low)) (high-steered (shapeOf t) v g s (rangesOf t′) _ _ (y .high)) (y .meet)
+      ends-inward (shapeOf t) (λ D. Rate (shapeOf t) D v) (rate-steady (shapeOf t) (t .n) (within-fits t w) v) (rangesOf t) (rangesOf t′) (narrows-filled t t′ f w) a b
+      (x .low) (x .high) (x .meet) (y .low) (y .high) (y .meet)
 
   pub rate-filled-inward : (x y : RateVerdict) → JudgesRate t v x → JudgesRate t′ v y → InwardRate x y
   rate-filled-inward (bad-field k) y j j′ = rate-verdict-unique t′ v y (bad-field k) j′ (bad-filled t t′ f k j)
@@ -106,7 +102,7 @@ module _ (t t′ : Table) (f : Filled t t′) (v : ℕ) where
   rate-filled-inward (rated a) no-name j j′ = absurd (omega (arith, j .1, j′ .1, f .n-same))
   rate-filled-inward (rated a) (knot-at u) j j′ = absurd (knot-not-live (shapeOf t′) u (j′ .2) (subst (λ (S : Shape). Live S) (shape-filled t t′ f) (j .2)))
   rate-filled-inward (rated a) unreached j j′ =
-      let p = j .3 .low .attained .rate in
+      let p = j .3 .low .attained .given in
       absurd (subst (λ (S : Shape). NoLoopTo S v) (sym (shape-filled t t′ f)) (j′ .3) (p .at) (p .loop) (p .is-loop-to))
   rate-filled-inward (rated a) too-wide j j′ = absurd (rate-never-wide t′ (j′ .0) v (j′ .1) (j′ .3 .0) (j′ .3 .1) (j′ .3 .2))
   rate-filled-inward (rated a) (rated b) j j′ = inward a b (j .0) (j .3) (subst (λ (S : Shape). Rates S (rangesOf t′) v b) (sym (shape-filled t t′ f)) (j′ .3))
@@ -120,12 +116,23 @@ module _ (t : Table) (w : Within t) (live : Live (shapeOf t)) where
   fits : Fits (shapeOf t) (t .n)
   fits = within-fits t w
 
-  -- the ends are the rates with the least and with the greatest delays
-  low-at : (v P Q : ℕ) → v < t .n → LowRate (shapeOf t) (rangesOf t) v P Q → Rate (shapeOf t) (rangesOf t .least) v P Q
-  low-at v P Q b = low-rate-at S (t .n) fits v (rangesOf t) (proper t) b maxOffset maxDelay (within-offsets t w) (within-delays t w) live P Q
+  least : (r : ℕ) → r < t .m → rangesOf t .least r ≤ maxDelay
+  least r b = omega (arith, proper t r b, within-delays t w r b)
 
-  high-at : (v P Q : ℕ) → v < t .n → HighRate (shapeOf t) (rangesOf t) v P Q → Rate (shapeOf t) (rangesOf t .greatest) v P Q
-  high-at v P Q b = high-rate-at S (t .n) fits v (rangesOf t) (proper t) b maxOffset maxDelay (within-offsets t w) (within-delays t w) live P Q
+  -- the ends are the rates with the least and with the greatest delays
+  module _ (v P Q : ℕ) (b : v < t .n) where
+    at-exists : (D : ℕ → ℕ) → ((r : ℕ) → r < t .m → D r ≤ maxDelay) → (E : ℕ → ℕ) → Rate (shapeOf t) E v P Q → (p : ℕ) × (q : ℕ) × Rate (shapeOf t) D v p q × Lowest p q
+    at-exists D most E x = rate-exists S (t .n) fits v b maxOffset maxDelay (within-offsets t w) live (record { at = x .at; loop = x .loop; is-loop-to = x .is-loop-to }) D most
+
+    low-at : LowEnd (shapeOf t) (rangesOf t) (λ D. Rate (shapeOf t) D v) P Q → Rate (shapeOf t) (rangesOf t .least) v P Q
+    low-at x =
+        let (p, q, y, l) = at-exists (rangesOf t .least) least _ (x .attained .given) in
+        low-at-least S (rangesOf t) (λ D. Rate (shapeOf t) D v) (rate-steady S (t .n) fits v) (proper t) P Q p q x y l
+
+    high-at : HighEnd (shapeOf t) (rangesOf t) (λ D. Rate (shapeOf t) D v) P Q → Rate (shapeOf t) (rangesOf t .greatest) v P Q
+    high-at x =
+        let (p, q, y, l) = at-exists (rangesOf t .greatest) (within-delays t w) _ (x .attained .given) in
+        high-at-greatest S (rangesOf t) (λ D. Rate (shapeOf t) D v) (rate-steady S (t .n) fits v) (proper t) P Q p q x y l
 
   -- NEITHER END FALLS ALONG A RULE
   pub rates-rise : (r : ℕ) → r < t .m → (a b : RateRange) → Rates (shapeOf t) (rangesOf t) (shapeOf t .source r) a → Rates (shapeOf t) (rangesOf t) (shapeOf t .target r) b
@@ -139,21 +146,26 @@ module _ (t : Table) (w : Within t) (live : Live (shapeOf t)) where
 
   -- THE LARGEST RATE OF ALL IS THE TABLE'S PERIOD
   module _ (a : Answer) (x : Answers (shapeOf t) (rangesOf t) (t .n) a) where
+    one : (D : ℕ → ℕ) → ((r : ℕ) → r < t .m → D r ≤ maxDelay) → (P : ℕ) × (Q : ℕ) × Period (shapeOf t) D P Q × Lowest P Q
+    one D most =
+        let p = x .low .attained .given in
+        period-exists S (t .n) fits maxOffset maxDelay (within-offsets t w) D most live (record { at = p .at; loop = p .loop; is-loop = p .is-loop })
+
     low-period : Period (shapeOf t) (rangesOf t .least) (a .lowP) (a .lowQ)
-    low-period = low-at-least S (rangesOf t) (proper t) (t .n) maxOffset maxDelay fits (within-offsets t w) (within-delays t w) live (a .lowP) (a .lowQ) (x .low)
+    low-period = let (p, q, y, l) = one (rangesOf t .least) least in low-at-least S (rangesOf t) (Period S) (period-steady S) (proper t) _ _ p q (x .low) y l
 
     high-period : Period (shapeOf t) (rangesOf t .greatest) (a .highP) (a .highQ)
-    high-period = high-at-greatest S (rangesOf t) (proper t) (t .n) maxOffset maxDelay fits (within-offsets t w) (within-delays t w) live (a .highP) (a .highQ) (x .high)
+    high-period = let (p, q, y, l) = one (rangesOf t .greatest) (within-delays t w) in high-at-greatest S (rangesOf t) (Period S) (period-steady S) (proper t) _ _ p q (x .high) y l
 
     pub rates-within : (v : ℕ) → v < t .n → (b : RateRange) → Rates (shapeOf t) (rangesOf t) v b → (b .lowP * a .lowQ ≤ a .lowP * b .lowQ) × (b .highP * a .highQ ≤ a .highP * b .highQ)
     rates-within v l b y = (rate-within S _ _ _ _ _ _ (low-at _ _ _ l (y .low)) low-period, rate-within S _ _ _ _ _ _ (high-at _ _ _ l (y .high)) high-period)
 
-    pub low-attained : (v : ℕ) × (v < t .n) × LowRate (shapeOf t) (rangesOf t) v (a .lowP) (a .lowQ)
+    pub low-attained : (v : ℕ) × (v < t .n) × LowEnd (shapeOf t) (rangesOf t) (λ D. Rate (shapeOf t) D v) (a .lowP) (a .lowQ)
     low-attained =
         let p = low-period in
-        (p .at, loop-start S (t .n) fits (p .at) (p .loop) (p .is-loop), low-rate-is S (t .n) fits (p .at) (rangesOf t) (proper t) _ _ (period-rate S _ _ _ p) (x .low .attained .lowest))
+        (p .at, loop-start S (t .n) fits (p .at) (p .loop) (p .is-loop), low-is S (rangesOf t) (λ D. Rate (shapeOf t) D (p .at)) (rate-steady S (t .n) fits (p .at)) (proper t) _ _ (period-rate S _ _ _ p) (x .low .attained .lowest))
 
-    pub high-attained : (v : ℕ) × (v < t .n) × HighRate (shapeOf t) (rangesOf t) v (a .highP) (a .highQ)
+    pub high-attained : (v : ℕ) × (v < t .n) × HighEnd (shapeOf t) (rangesOf t) (λ D. Rate (shapeOf t) D v) (a .highP) (a .highQ)
     high-attained =
         let p = high-period in
-        (p .at, loop-start S (t .n) fits (p .at) (p .loop) (p .is-loop), high-rate-is S (t .n) fits (p .at) (rangesOf t) (proper t) _ _ (period-rate S _ _ _ p) (x .high .attained .lowest))
+        (p .at, loop-start S (t .n) fits (p .at) (p .loop) (p .is-loop), high-is S (rangesOf t) (λ D. Rate (shapeOf t) D (p .at)) (rate-steady S (t .n) fits (p .at)) (proper t) _ _ (period-rate S _ _ _ p) (x .high .attained .lowest))

@@ -7,8 +7,8 @@
 --   LapOf t r          == THE PROMISE of `lap`; lap-unique: it has one outcome
 --   Sided, LapIn       == what the parts of it promise on columns
 use mathlib.Core.Path.{_≡_, refl, sym, ap, _∙_, subst}
-use mathlib.Core.Bool.{Bool, true, false}
-use mathlib.Core.Logic.{_≢_, inl, inr}
+use mathlib.Core.Bool.{Bool, false}
+use mathlib.Core.Logic.{_≢_}
 use mathlib.Core.List.{List, [], _∷_, _++_}
 use Prim.Native.Nat.{ℕ, zero, suc, _+_, _-_, _≤_, _<_}
 use native.Mathlib.Omega.{arith}
@@ -23,10 +23,11 @@ use Rattle.model.specs.Period.{Period}
 use Rattle.model.specs.Filling.{Ranges}
 use Rattle.model.specs.Schedule.{Keeps, LeastSchedule}
 use Rattle.model.specs.Reported.{Reported}
-use Rattle.model.specs.Answer.{Answer, Exact, Answers}
+use Rattle.model.specs.Ends.{Exact}
+use Rattle.model.specs.Answer.{Answer, Answers}
 use Rattle.theory.specs.Schedule.{TightRule}
 use Rattle.theory.specs.Filling.{Proper}
-use Rattle.theory.specs.Ends.{low-is, high-is}
+use Rattle.theory.specs.Ends.{period-steady, low-is, high-is}
 use Rattle.theory.specs.First.{KindLoop, FirstLoop}
 use Rattle.theory.specs.Knot.{first-knot, none-live}
 use Rattle.theory.specs.Climb.{Climbed, climbed-none, climbed-period, climbed-reported, climbed-schedule}
@@ -142,22 +143,14 @@ abbrev pub answerOf : ℕ → ℕ → ℕ → ℕ → List ℕ → ℕ → ℕ �
 answerOf n p q l ls P Q h hs x e =
     record { lowP = p; lowQ = q; highP = P; highQ = Q; exact = e; lowLoop = take l ls; highLoop = take h hs; schedule = take n x }
 
--- whether the ends meet, as the code tells it
-abbrev pub Meets : ℕ → ℕ → ℕ → ℕ → Bool → Type 0
-Meets p q P Q e = (e ≡ true → (p ≡ P) × (q ≡ Q)) × (e ≡ false → ¬ ((p ≡ P) × (q ≡ Q)))
-
-meets-exact : (n p q l P Q h : ℕ) (ls hs x : List ℕ) (e : Bool) → Meets p q P Q e → Exact (answerOf n p q l ls P Q h hs x e)
-meets-exact n p q l P Q h ls hs x true m = inl (m .0 refl .0, m .0 refl .1, refl)
-meets-exact n p q l P Q h ls hs x false m = inr (m .1 refl, refl)
-
 -- TWO SIDES MAKE THE ANSWER
 pub sides-answer : (S : Shape) (K : Ranges) → Proper S K → (n p q l P Q h : ℕ) (ls xs hs x : List ℕ) (e : Bool) → 0 < l → 0 < h
-    → Sided S K.least n p q l ls xs → Sided S K.greatest n P Q h hs x → Meets p q P Q e → Answers S K n (answerOf n p q l ls P Q h hs x e)
+    → Sided S K.least n p q l ls xs → Sided S K.greatest n P Q h hs x → Exact p q P Q e → Answers S K n (answerOf n p q l ls P Q h hs x e)
 sides-answer S K proper n p q l P Q h ls xs hs x e lb hb low high m =
     record {
-      low = low-is S K proper p q (low .period lb) (low .lowest lb);
-      high = high-is S K proper P Q (high .period hb) (high .lowest hb);
-      meet = meets-exact n p q l P Q h ls hs x e m;
+      low = low-is S K (Period S) (period-steady S) proper p q (low .period lb) (low .lowest lb);
+      high = high-is S K (Period S) (period-steady S) proper P Q (high .period hb) (high .lowest hb);
+      meet = m;
       low-at = low .at;
       low-loop = low .reported lb;
       high-at = high .at;
@@ -192,7 +185,7 @@ module _ {S : Shape} {K : Ranges} {n : ℕ} {r : Lap} where
   pub ends-flat : {p q len : ℕ} {rules x : List ℕ} → Live S → Sided S K.least n p q len rules x → len ≡ 0 → r ≡ refusedLap 6 0 → LapIn S K n r
   ends-flat live s z e = record { verdict = flat; judged = (live, s .none z); result = e }
 
-  pub ends-answered : {p q l P Q h : ℕ} {ls xs hs x : List ℕ} {e : Bool} → Proper S K → Live S → Sided S K.least n p q l ls xs → Sided S K.greatest n P Q h hs x → l ≢ 0 → Meets p q P Q e
+  pub ends-answered : {p q l P Q h : ℕ} {ls xs hs x : List ℕ} {e : Bool} → Proper S K → Live S → Sided S K.least n p q l ls xs → Sided S K.greatest n P Q h hs x → l ≢ 0 → Exact p q P Q e
       → r ≡ answeredLap (answerOf n p q l ls P Q h hs x e) → LapIn S K n r
   ends-answered {p} {q} {l} {P} {Q} {h} {ls} {xs} {hs} {x} {e} proper live low high some m is =
       let lb : 0 < l = omega arith in
@@ -264,7 +257,3 @@ pub lap-made : (n p q l : ℕ) (ls : List ℕ) (P Q h : ℕ) (hs x : List ℕ) (
     → n ≤ 256 → length x ≡ 256 → ((v : ℕ) → n ≤ v → getD x v 0 ≡ 0)
     → _≡_ {A = Lap} (record { refusal = 0; place = 0; exact = e; low = low; high = high; schedule = x }) (answeredLap (answerOf n p q l ls P Q h hs x e))
 lap-made n p q l ls P Q h hs x e low high a b few size rest = rw (a, b, padded-zeros n x few size rest)
-
--- the flag of two ends
-pub no-flag : {A : Type 0} → true ≡ false → A
-no-flag e = let z : _≡_ {A = ℕ} 0 1 = cc in absurd (omega arith)

@@ -15,7 +15,7 @@ use Rattle.model.specs.Loop.{SomeLoop, NoLoop, Live}
 use Rattle.model.specs.Knot.{Knot}
 use Rattle.model.specs.Filling.{Ranges, Filling}
 use Rattle.model.specs.Wide.{WideSum}
-use Rattle.model.specs.Answer.{Answer, Exact, Answers}
+use Rattle.model.specs.Answer.{Answer, Answers}
 use Rattle.theory.specs.Filling.{Proper, ranges-proper}
 use Rattle.theory.specs.Knot.{knot-unique, knot-not-live, knot-or-live, loop-or-none}
 use Rattle.theory.specs.Answer.{answer-unique, answer-exists}
@@ -52,9 +52,9 @@ pub never-wide-at : (t : Table) → Within t → (a : Answer) → Answers (shape
 never-wide-at t w a x =
     ⊎-elim
     (never-wide (shapeOf t) (rangesOf t .least) (x .low .attained .D) (t .n) (a .lowP) (a .lowQ) (w .n-high) (within-fits t w) (within-offsets t w) least
-    (below (x .low .attained .D) (x .low .attained .fills)) (x .low .attained .period) (x .low .attained .lowest))
+    (below (x .low .attained .D) (x .low .attained .fills)) (x .low .attained .given) (x .low .attained .lowest))
     (never-wide (shapeOf t) (rangesOf t .greatest) (x .high .attained .D) (t .n) (a .highP) (a .highQ) (w .n-high) (within-fits t w) (within-offsets t w) (within-delays t w)
-    (below (x .high .attained .D) (x .high .attained .fills)) (x .high .attained .period) (x .high .attained .lowest))
+    (below (x .high .attained .D) (x .high .attained .fills)) (x .high .attained .given) (x .high .attained .lowest))
   where
     least : (r : ℕ) → r < t .m → rangesOf t .least r ≤ 1000000
     least r b = omega (arith, within-delays t w r b, proper t r b)
@@ -80,7 +80,7 @@ verdict-exists t = ⊎-elim inside (λ b. (outside (b .0), b .1)) (within-or-fir
 
 -- an answer speaks of a loop
 answers-loop : (S : Shape) (K : Ranges) (n : ℕ) (a : Answer) → Answers S K n a → ¬ (NoLoop S)
-answers-loop S K n a x none = none (x .low .attained .period .at) (x .low .attained .period .loop) (x .low .attained .period .is-loop)
+answers-loop S K n a x none = none (x .low .attained .given .at) (x .low .attained .given .loop) (x .low .attained .given .is-loop)
 
 -- ONLY ONE
 pub verdict-unique : (t : Table) (v w : Verdict) → Judges t v → Judges t w → v ≡ w

@@ -4,8 +4,9 @@ ghost use mathlib.Core.List.{_++_};
 ghost use Prim.Native.Nat.{ℕ, _-_, _≤_};
 ghost use lib.ListN.{length, getD, take, replicate};
 ghost use Rattle.model.specs.Loop.{Live};
+ghost use Rattle.model.specs.Ends.{Exact};
 ghost use Rattle.columns.specs.Columns.{shape, delayAt, Limits, Short, Ordered};
-ghost use Rattle.engine.specs.Lap.{refusedLap, endOf, answeredLap, Sided, Meets, answerOf, rangesIn, LapIn};
+ghost use Rattle.engine.specs.Lap.{refusedLap, endOf, answeredLap, Sided, answerOf, rangesIn, LapIn};
 use crate::End;
 use crate::Lap;
 
@@ -90,7 +91,7 @@ fn measured(
 
 // Whether p/q and r/s, both in lowest terms, are equal.
 pub fn meet(p: u64, q: u64, r: u64, s: u64) -> bool
-    ensures { λ e. ⌜ Meets p q r s e ⌝ }
+    ensures { λ e. ⌜ Exact p q r s e ⌝ }
 {
     if p == r {
         if q == s {
@@ -117,7 +118,7 @@ fn end(p: u64, q: u64, len: usize, rules: [u16; 256]) -> End
 // The answer that two sides make.
 fn answered(n: usize, low: Side, high: Side) -> Lap
     requires { ⌜ (n ≤ 256) × (low .len ≤ 256) × (high .len ≤ 256) × ((v : ℕ) → n ≤ v → getD (high .x) v 0 ≡ 0) × (length (high .x) ≡ 256) ⌝ }
-    ensures { λ r. ⌜ (Meets (low .p) (low .q) (high .p) (high .q) (r .exact)) × (r ≡ answeredLap (answerOf n (low .p) (low .q) (low .len) (low .rules) (high .p) (high .q) (high .len) (high .rules) (high .x) (r .exact))) ⌝ }
+    ensures { λ r. ⌜ (Exact (low .p) (low .q) (high .p) (high .q) (r .exact)) × (r ≡ answeredLap (answerOf n (low .p) (low .q) (low .len) (low .rules) (high .p) (high .q) (high .len) (high .rules) (high .x) (r .exact))) ⌝ }
 {
     let rules = low.rules;
     let least = end(low.p, low.q, low.len, rules);

@@ -24,13 +24,15 @@ use Rattle.model.specs.Ratio.{Lowest}
 use Rattle.model.specs.Filling.{Ranges, Filling}
 use Rattle.model.specs.Wide.{WideSum}
 use Rattle.model.specs.Period.{Period}
-use Rattle.model.specs.Rate.{SomeLoopTo, NoLoopTo, Rate, RateRange, ExactRate, Rates}
+use Rattle.model.specs.Ends.{Exact}
+use Rattle.model.specs.Rate.{SomeLoopTo, NoLoopTo, Rate, RateRange, Rates}
 use Rattle.theory.specs.Knot.{knot-unique, knot-not-live, knot-or-live, loop-or-none, first-knot}
 use Rattle.theory.specs.Schedule.{TightRule}
 use Rattle.theory.specs.Climb.{climbed-period, climbed-none}
 use Rattle.theory.specs.Same.{period-same}
 use Rattle.theory.specs.Wide.{period-limits, small-not-wide}
-use Rattle.theory.specs.Rate.{steered, steering, rate-steered, rate-plain, none-plain, some-plain, fits-steered, low-rate-is, high-rate-is, rates-unique, rates-exist}
+use Rattle.theory.specs.Ends.{low-is, high-is}
+use Rattle.theory.specs.Rate.{steered, steering, rate-steered, rate-plain, none-plain, some-plain, fits-steered, rate-steady, rates-unique, rates-exist}
 use Rattle.theory.specs.Gather.{Gathers, none-gathered, rate-gathered}
 use Rattle.table.specs.declared.Table.{Table}
 use Rattle.table.specs.Limits.{maxOffset, maxDelay}
@@ -42,7 +44,7 @@ use Rattle.loops.specs.Found.{FoundFirst}
 use Rattle.columns.specs.Lay.{Laid, laid-shape, laid-least, laid-greatest}
 use Rattle.search.specs.Search.{Reached}
 use Rattle.engine.specs.Verdict.{proper}
-use Rattle.engine.specs.Lap.{rangesIn, Meets, ends-live, no-flag}
+use Rattle.engine.specs.Lap.{rangesIn, ends-live}
 
 pub data RateVerdict : Type 0 where
   bad-field : ℕ → RateVerdict
@@ -90,9 +92,9 @@ pub rate-never-wide : (t : Table) → Within t → (v : ℕ) → v < t .n → (a
 rate-never-wide t w v b a x =
     ⊎-elim
     (small-not-wide (shapeOf t) (rangesOf t .least) (t .n) (a .lowP) (a .lowQ) (w .n-high) (within-fits t w) (within-offsets t w) least
-    (small (x .low .attained .D) (x .low .attained .fills) (a .lowP) (a .lowQ) (x .low .attained .rate) (x .low .attained .lowest)))
+    (small (x .low .attained .D) (x .low .attained .fills) (a .lowP) (a .lowQ) (x .low .attained .given) (x .low .attained .lowest)))
     (small-not-wide (shapeOf t) (rangesOf t .greatest) (t .n) (a .highP) (a .highQ) (w .n-high) (within-fits t w) (within-offsets t w) (within-delays t w)
-    (small (x .high .attained .D) (x .high .attained .fills) (a .highP) (a .highQ) (x .high .attained .rate) (x .high .attained .lowest)))
+    (small (x .high .attained .D) (x .high .attained .fills) (a .highP) (a .highQ) (x .high .attained .given) (x .high .attained .lowest)))
   where
     least : (r : ℕ) → r < t .m → rangesOf t .least r ≤ 1000000
     least r b = omega (arith, within-delays t w r b, proper t r b)
@@ -109,7 +111,7 @@ rate-verdict-exists t v = ⊎-elim inside (λ b. (bad-field (b .0), b .1)) (with
   where
     answer : Within t → v < t .n → Live (shapeOf t) → SomeLoopTo (shapeOf t) v → (x : RateVerdict) × JudgesRate t v x
     answer w b live some =
-        let (a, x) = rates-exist (shapeOf t) (t .n) (within-fits t w) v (rangesOf t) (proper t) b maxOffset maxDelay (within-offsets t w) (within-delays t w) live some in
+        let (a, x) = rates-exist (shapeOf t) (t .n) (within-fits t w) v b maxOffset maxDelay (within-offsets t w) live some (rangesOf t) (proper t) (within-delays t w) in
         (rated a, (w, b, live, x, rate-never-wide t w v b a x))
 
     named : Within t → v < t .n → (x : RateVerdict) × JudgesRate t v x
@@ -126,7 +128,7 @@ rate-verdict-exists t v = ⊎-elim inside (λ b. (bad-field (b .0), b .1)) (with
 
 -- a range speaks of a loop
 rates-loop : (S : Shape) (K : Ranges) (v : ℕ) (a : RateRange) → Rates S K v a → ¬ (NoLoopTo S v)
-rates-loop S K v a x none = let r = x .low .attained .rate in none (r .at) (r .loop) (r .is-loop-to)
+rates-loop S K v a x none = let r = x .low .attained .given in none (r .at) (r .loop) (r .is-loop-to)
 
 -- ONLY ONE
 pub rate-verdict-unique : (t : Table) (v : ℕ) (x y : RateVerdict) → JudgesRate t v x → JudgesRate t v y → x ≡ y
@@ -183,7 +185,7 @@ pub record Paced (S : Shape) (D : ℕ → ℕ) (found : Bool) (p q : ℕ) : Type
 -- two sides put together
 pub record MetRate (p q P Q : ℕ) (r : Rated) : Type 0 where
   pub exact : Bool
-  pub meets : Meets p q P Q exact
+  pub meets : Exact p q P Q exact
   pub result : r ≡ answeredRate (record { lowP = p; lowQ = q; highP = P; highQ = Q; exact = exact })
 
 -- a period in lowest terms
@@ -194,13 +196,16 @@ InLowest S D p q = Period S D p q × Lowest p q
 abbrev pub RatedIn : Shape → Ranges → Rated → Type 0
 RatedIn S K r =
     (NoLoop S × (r ≡ refusedRate 6 0))
-    ⊎ ((a : RateRange) × InLowest S K.least (a .lowP) (a .lowQ) × InLowest S K.greatest (a .highP) (a .highQ) × ExactRate a × (r ≡ answeredRate a))
+    ⊎ ((a : RateRange) × InLowest S K.least (a .lowP) (a .lowQ) × InLowest S K.greatest (a .highP) (a .highQ) × Exact (a .lowP) (a .lowQ) (a .highP) (a .highQ) (a .exact) × (r ≡ answeredRate a))
 
 -- the same for the loops that reach v
 abbrev pub RatedTo : Shape → Ranges → ℕ → Rated → Type 0
 RatedTo S K v r =
     (NoLoopTo S v × (r ≡ refusedRate 6 0))
-    ⊎ ((a : RateRange) × (Rate S K.least v (a .lowP) (a .lowQ) × Lowest (a .lowP) (a .lowQ)) × (Rate S K.greatest v (a .highP) (a .highQ) × Lowest (a .highP) (a .highQ)) × ExactRate a × (r ≡ answeredRate a))
+    ⊎ ((a : RateRange) × (Rate S K.least v (a .lowP) (a .lowQ) × Lowest (a .lowP) (a .lowQ)) × (Rate S K.greatest v (a .highP) (a .highQ) × Lowest (a .highP) (a .highQ)) × Exact (a .lowP) (a .lowQ) (a .highP) (a .highQ) (a .exact) × (r ≡ answeredRate a))
+
+no-flag : {A : Type 0} → true ≡ false → A
+no-flag e = let z : _≡_ {A = ℕ} 0 1 = cc in absurd (omega arith)
 
 module _ (S : Shape) (D : ℕ → ℕ) (P Q : ℕ) (X : List ℕ) (live : Live S) (c : Reached S D P Q X) where
   pub paced : SomeLoop S → Paced S D true P Q
@@ -217,16 +222,12 @@ module _ (S : Shape) (D : ℕ → ℕ) (P Q : ℕ) (X : List ℕ) (live : Live S
 pub paced-same : (S : Shape) (D E : ℕ → ℕ) → ((r : ℕ) → r < S.rules → D r ≡ E r) → (f : Bool) (p q : ℕ) → Paced S D f p q → Paced S E f p q
 paced-same S D E same f p q x = record { none = x .none; period = λ z. period-same S D E same p q (x .period z); lowest = x .lowest }
 
-met-exact : (p q P Q : ℕ) (e : Bool) → Meets p q P Q e → ExactRate (record { lowP = p; lowQ = q; highP = P; highQ = Q; exact = e })
-met-exact p q P Q true m = inl (m .0 refl .0, m .0 refl .1, refl)
-met-exact p q P Q false m = inr (m .1 refl, refl)
-
 pub ends-none : (S : Shape) (K : Ranges) (p q : ℕ) (r : Rated) (f : Bool) → Paced S K.least f p q → f ≡ false → r ≡ refusedRate 6 0 → RatedIn S K r
 ends-none S K p q r f x z e = inl (x .none z, e)
 
 pub ends-met : (S : Shape) (K : Ranges) (p q P Q : ℕ) (f g : Bool) (r : Rated) → Paced S K.least f p q → f ≡ true → Paced S K.greatest g P Q → MetRate p q P Q r → RatedIn S K r
 ends-met S K p q P Q f true r x z y m =
-    inr (record { lowP = p; lowQ = q; highP = P; highQ = Q; exact = m .exact }, (x .period z, x .lowest z), (y .period refl, y .lowest refl), met-exact p q P Q (m .exact) (m .meets), m .result)
+    inr (record { lowP = p; lowQ = q; highP = P; highQ = Q; exact = m .exact }, (x .period z, x .lowest z), (y .period refl, y .lowest refl), m .meets, m .result)
 ends-met S K p q P Q f false r x z y m = let l = x .period z in absurd (y .none refl (l .at) (l .loop) (l .is-loop))
 
 -- THE ENDS OF THE RULES WHOSE TARGETS REACH v ARE THE RATE'S
@@ -267,8 +268,8 @@ module _ (t : Table) (w : Within t) (v : ℕ) (b : v < t .n) (s g o l h : List �
         let z = subst (λ (S : Shape). Live S × Rate S (rangesIn l h .least) v (a .lowP) (a .lowQ) × Rate S (rangesIn l h .greatest) v (a .highP) (a .highQ)) (laid-shape t s g o l h k c) (columns-live, low .0, high .0) in
         let rates : Rates (shapeOf t) (rangesOf t) v a =
         record {
-          low = low-rate-is (shapeOf t) (t .n) (within-fits t w) v (rangesOf t) (proper t) _ _ (rate-same (shapeOf t) (t .n) (within-fits t w) _ _ (laid-least t s g o l h k c) v _ _ (z .1)) (low .1);
-          high = high-rate-is (shapeOf t) (t .n) (within-fits t w) v (rangesOf t) (proper t) _ _ (rate-same (shapeOf t) (t .n) (within-fits t w) _ _ (laid-greatest t s g o l h k c) v _ _ (z .2)) (high .1);
+          low = low-is (shapeOf t) (rangesOf t) (λ D. Rate (shapeOf t) D v) (rate-steady (shapeOf t) (t .n) (within-fits t w) v) (proper t) _ _ (rate-same (shapeOf t) (t .n) (within-fits t w) _ _ (laid-least t s g o l h k c) v _ _ (z .1)) (low .1);
+          high = high-is (shapeOf t) (rangesOf t) (λ D. Rate (shapeOf t) D v) (rate-steady (shapeOf t) (t .n) (within-fits t w) v) (proper t) _ _ (rate-same (shapeOf t) (t .n) (within-fits t w) _ _ (laid-greatest t s g o l h k c) v _ _ (z .2)) (high .1);
           meet = meet;
         } in
         record { verdict = rated a; judged = (w, b, z .0, rates, rate-never-wide t w v b a rates); result = e }
