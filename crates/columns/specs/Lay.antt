@@ -102,9 +102,6 @@ pub ordered : (d : Delay) → leastOf (delayOf d) ≤ greatestOf maxDelay (delay
 ordered Unknown = omega arith
 ordered (Known d) = omega arith
 
-pub true-false : true ≡ false → ⊥
-true-false e = let z : _≡_ {A = ℕ} 0 1 = cc in omega arith
-
 -- a column of a field of the rules is that field of the rules in use
 column-used : (t : Table) (f : Rule → ℕ) → f unusedRule ≡ 0 → (xs : List ℕ) → Column (λ r. f (ruleOf t r)) (t .m) xs → (r : ℕ) → getD xs r 0 ≡ f (getD (used t) r unusedRule)
 column-used t f z xs c r =

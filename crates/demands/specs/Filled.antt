@@ -6,7 +6,7 @@
 --   Inward v w          == what filling may do to a verdict: nothing to a refusal; an answer's ends move inward, and an exact one stays
 --   filled-inward       THE THEOREM, between the verdicts on two such tables
 use mathlib.Core.Path.{_≡_, refl, sym, ap, _∙_, subst, fun-ext}
-use mathlib.Core.Bool.{Bool, true, false}
+use mathlib.Core.Bool.{Bool, true, false, true≢false}
 use mathlib.Core.Logic.{_⊎_, inl, inr, ⊎-elim, by-cases}
 use mathlib.Core.List.{List, [], _∷_}
 use Prim.Native.Nat.{ℕ, zero, suc, _+_, _*_, _/_, _%_, _≤_, _<_}
@@ -77,12 +77,9 @@ pub ends-inward : (S : Shape) (M : Measure) → Steady S M → (K K′ : Ranges)
 ends-inward S M steady K K′ narrows a b low high meet low′ high′ meet′ =
     (low-inward S M steady K K′ narrows _ _ _ _ low low′, high-inward S M steady K K′ narrows _ _ _ _ high high′, stays)
   where
-    flag : true ≡ false → ⊥
-    flag z = let c : _≡_ {A = ℕ} 0 1 = cc in omega arith
-
     stays : a .exact ≡ true → (b .lowP ≡ a .lowP) × (b .lowQ ≡ a .lowQ) × (b .highP ≡ a .highP) × (b .highQ ≡ a .highQ) × (b .exact ≡ true)
     stays e =
-        let m : (a .lowP ≡ a .highP) × (a .lowQ ≡ a .highQ) = ⊎-elim (λ k. (k .0, k .1)) (λ k. absurd (flag (sym e ∙ k .1))) meet in
+        let m : (a .lowP ≡ a .highP) × (a .lowQ ≡ a .highQ) = ⊎-elim (λ k. (k .0, k .1)) (λ k. absurd (true≢false (sym e ∙ k .1))) meet in
         let same : HighEnd S K M (a .lowP) (a .lowQ) = rw (m .0, m .1) high in
         let s = exact-stays S M steady K K′ narrows _ _ _ _ _ _ low same low′ high′ in (
           s .0 .0,

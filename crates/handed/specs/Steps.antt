@@ -9,7 +9,7 @@
 --   read-...                           the ways out of reading into columns; what is read of a file
 use Prim.Native.Nat.{ℕ, zero, suc, _+_, _≤_, _<_}
 use mathlib.Core.Path.{_≡_, refl, sym, ap, _∙_, subst}
-use mathlib.Core.Bool.{Bool, true, false}
+use mathlib.Core.Bool.{Bool, true, false, true≢false}
 use mathlib.Core.Logic.{_≢_, by-cases}
 use mathlib.Core.List.{List}
 use native.Mathlib.Omega.{arith}
@@ -87,10 +87,7 @@ pub short-known : (m t o d k : ℕ) → m ≤ t → m ≤ o → m ≤ d → ltb 
 short-known m t o d k a b e = rw (le-ltb t m a, le-ltb o m b, le-ltb d m e) refl
 
 first-false : (a b : Bool) → pick a true b ≡ false → (a ≡ false) × (b ≡ false)
-first-false true b e = absurd (flag e)
-  where
-    flag : true ≡ false → ⊥
-    flag e = let z : _≡_ {A = ℕ} 0 1 = cc in omega arith
+first-false true b e = absurd (true≢false e)
 first-false false b e = (refl, e)
 
 -- no column is too short

@@ -30,7 +30,8 @@ use Rattle.peel.specs.Plain.{plain}
 use Rattle.peel.specs.Peel.{Stays, loop-remnant}
 use Rattle.peel.specs.Peeling.{Peeled, peeled-none}
 use Rattle.loops.specs.Listed.{Listed, Gathered, picks, limits-within}
-use Rattle.loops.specs.Near.{Near, Settled, Ways, near-least, near-short, followed, followed-first, Steps}
+use Rattle.distances.specs.Near.{Near, Settled, near-least, near-short}
+use Rattle.loops.specs.Ways.{Ways, followed, followed-first, Steps}
 
 -- the first loop of the kind A has len rules, those that stand first, and is read from at; there is none where len is 0
 pub record FoundFirst (S : Shape) (A : ℕ → Type 0) (n len at : ℕ) (rules : List ℕ) : Type 0 where

@@ -1,5 +1,3 @@
-pub mod Links
 pub mod Listed
-pub mod Near
-pub mod Queue
+pub mod Ways
 pub mod Found

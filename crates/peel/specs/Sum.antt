@@ -5,7 +5,6 @@
 --   total k xs        == the sum of the first k numbers of a list; total-set: one of them replaced
 use mathlib.Core.Path.{_≡_, refl}
 use mathlib.Core.Logic.{by-cases, _≢_}
-use mathlib.Core.Bool.{Bool, true, false}
 use mathlib.Core.List.{List}
 use Prim.Native.Nat.{ℕ, zero, suc, _+_, _≤_, _<_}
 use native.Mathlib.Omega.{arith}
@@ -66,7 +65,3 @@ inside xs i h = by-cases (decLe (length xs) i) (λ out. absurd (omega (arith, Li
 pub total-set : (k : ℕ) (xs : List ℕ) (i x : ℕ) → i < k → 0 < getD xs i 0 → total k (set xs i x) + getD xs i 0 ≡ total k xs + x
 total-set k xs i x b l =
     omega (arith, getD-set-same xs i x 0 (inside xs i l), sum-but k (λ j. getD (set xs i x) j 0) (λ j. getD xs j 0) i b (λ j d. getD-set-other xs i j x 0 d))
-
--- no flag is both
-pub not-both : (f : Bool) → f ≡ true → f ≡ false → ⊥
-not-both f a b = let z : _≡_ {A = ℕ} 0 1 = cc in omega arith

@@ -3,7 +3,7 @@
 --   put-next                     one value more is put into a buffer
 --   analysed-...                 what each way out of the call hands back is what the promise says
 use mathlib.Core.Path.{_≡_, refl, sym, ap, _∙_, subst}
-use mathlib.Core.Bool.{Bool, true, false}
+use mathlib.Core.Bool.{Bool, true, false, true≢false}
 use mathlib.Core.Logic.{_≢_}
 use mathlib.Core.List.{List, [], _∷_, _++_}
 use Prim.Native.Nat.{ℕ, zero, suc, _+_, _-_, _≤_, _<_}
@@ -60,10 +60,7 @@ refused-outcome (found a) x l h b = absurd (omega arith)
 
 -- a verdict other than `outside` is on a table within its limits, whose loops have no more rules than there are transitions
 judged-within : (t : Table) (v : Verdict) → Judges t v → isOutside v ≡ false → Within t
-judged-within t (outside k) j e = absurd (flag e)
-  where
-    flag : true ≡ false → ⊥
-    flag e = let z : _≡_ {A = ℕ} 0 1 = cc in omega arith
+judged-within t (outside k) j e = absurd (true≢false e)
 judged-within t (knotted u) j e = j .0
 judged-within t flat j e = j .0
 judged-within t wide j e = j .0

@@ -10,7 +10,7 @@
 --
 -- Theorems: rate-never-wide (refusal 11 never comes), rate-verdict-exists, rate-verdict-unique, rate-unique (one outcome).
 use mathlib.Core.Path.{_≡_, refl, sym, ap, _∙_, subst}
-use mathlib.Core.Bool.{Bool, true, false}
+use mathlib.Core.Bool.{Bool, true, false, true≢false, false≢true}
 use mathlib.Core.Logic.{_≢_, _⊎_, inl, inr, ⊎-elim, by-cases}
 use mathlib.Core.List.{List}
 use Prim.Native.Nat.{ℕ, _≤_, _<_, _^_}
@@ -204,19 +204,16 @@ RatedTo S K v r =
     (NoLoopTo S v × (r ≡ refusedRate 6 0))
     ⊎ ((a : RateRange) × (Rate S K.least v (a .lowP) (a .lowQ) × Lowest (a .lowP) (a .lowQ)) × (Rate S K.greatest v (a .highP) (a .highQ) × Lowest (a .highP) (a .highQ)) × Exact (a .lowP) (a .lowQ) (a .highP) (a .highQ) (a .exact) × (r ≡ answeredRate a))
 
-no-flag : {A : Type 0} → true ≡ false → A
-no-flag e = let z : _≡_ {A = ℕ} 0 1 = cc in absurd (omega arith)
-
 module _ (S : Shape) (D : ℕ → ℕ) (P Q : ℕ) (X : List ℕ) (live : Live S) (c : Reached S D P Q X) where
   pub paced : SomeLoop S → Paced S D true P Q
-  paced some = record { none = λ z. no-flag z; period = λ z. climbed-period S D P Q X (c .climbed) live some; lowest = λ z. c .climbed .lowest }
+  paced some = record { none = λ z. absurd (true≢false z); period = λ z. climbed-period S D P Q X (c .climbed) live some; lowest = λ z. c .climbed .lowest }
 
   module _ (n len at : ℕ) (rules : List ℕ) (f : FoundFirst S (TightRule S D P Q X) n len at rules) where
     pub paced-tight : len ≢ 0 → Paced S D true P Q
     paced-tight d = paced (record { at = at; loop = take len rules; is-loop = f .some (omega arith) .is-one .is-loop })
 
     pub paced-none : len ≡ 0 → Paced S D false 0 0
-    paced-none e = record { none = λ z. climbed-none S D P Q X (c .climbed) (f .none e); period = λ z. no-flag (sym z); lowest = λ z. no-flag (sym z) }
+    paced-none e = record { none = λ z. climbed-none S D P Q X (c .climbed) (f .none e); period = λ z. absurd (false≢true z); lowest = λ z. absurd (false≢true z) }
 
 -- the same side for delays that agree
 pub paced-same : (S : Shape) (D E : ℕ → ℕ) → ((r : ℕ) → r < S.rules → D r ≡ E r) → (f : Bool) (p q : ℕ) → Paced S D f p q → Paced S E f p q

@@ -26,8 +26,8 @@ use Rattle.theory.specs.Gather.{Reaching, Gathers, gathers-all}
 use Rattle.columns.specs.Columns.{shape, Limits, Ordered}
 use Rattle.peel.specs.Plain.{plain}
 use Rattle.loops.specs.Listed.{Listed, listed-none, listed-skip, listed-add, Gathered}
-use Rattle.loops.specs.Near.{near-least}
-use Rattle.loops.specs.Queue.{Sought}
+use Rattle.distances.specs.Near.{near-least}
+use Rattle.distances.specs.Queue.{Sought}
 
 pub limits-plain : (source target offset : List ℕ) (m n : ℕ) → Limits source target offset m n → Limits source target [] m n
 limits-plain source target offset m n l =

@@ -84,12 +84,12 @@ fn met(low: Pace, high: Pace) -> Rated
 }
 
 // The two ends of rules within their limits all of whose loops turn; refused 6 where there is no loop.
-pub fn ends(
-    source: &[u16; 2048],
-    target: &[u16; 2048],
-    offset: &[u16; 2048],
-    least: &[u32; 2048],
-    greatest: &[u32; 2048],
+pub fn ends<'a>(
+    source: &'a [u16; 2048],
+    target: &'a [u16; 2048],
+    offset: &'a [u16; 2048],
+    least: &'a [u32; 2048],
+    greatest: &'a [u32; 2048],
     blank: bool,
     m: usize,
     n: usize,

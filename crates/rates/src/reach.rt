@@ -22,7 +22,7 @@ fn counts(t: usize, v: usize, dist: u16) -> usize
 {
     if t == v {
         1
-    } else if wide(dist) < loops::FAR {
+    } else if wide(dist) < distances::FAR {
         1
     } else {
         0
@@ -41,45 +41,42 @@ struct Kept {
 
 // The rules whose targets reach v. Each rule is written at the end of the columns, which moves on past those that are kept: a branch round it would often be
 // guessed wrongly.
-fn gather(
-    source: &[u16; 2048],
-    target: &[u16; 2048],
-    offset: &[u16; 2048],
-    least: &[u32; 2048],
-    greatest: &[u32; 2048],
+fn gather<'a>(
+    source: &'a [u16; 2048],
+    target: &'a [u16; 2048],
+    offset: &'a [u16; 2048],
+    least: &'a [u32; 2048],
+    greatest: &'a [u32; 2048],
     m: usize,
     n: usize,
     v: usize,
-    dist: &[u16; 256],
+    dist: &'a [u16; 256],
 ) -> Kept
     requires { ⌜ Limits (now source) (now target) (now offset) m n ⌝ }
     ensures { λ r. ⌜ Taken (now (source .entry)) (now (target .entry)) (now (offset .entry)) (now (least .entry)) (now (greatest .entry)) v (now (dist .entry)) m (r .source) (r .target) (r .offset) (r .least) (r .greatest) (r .len) ⌝ }
 {
-    let mut from = [0u16; 2048];
-    let mut to = [0u16; 2048];
-    let mut offsets = [0u16; 2048];
-    let mut low = [0u32; 2048];
-    let mut high = [0u32; 2048];
+    let mut kept = Kept {
+        source: [0u16; 2048],
+        target: [0u16; 2048],
+        offset: [0u16; 2048],
+        least: [0u32; 2048],
+        greatest: [0u32; 2048],
+        len: 0,
+    };
     let mut len = 0;
     let mut r = 0;
     while r < m {
         let t = wide(target[r]);
-        from[len] = source[r];
-        to[len] = target[r];
-        offsets[len] = offset[r];
-        low[len] = least[r];
-        high[len] = greatest[r];
+        kept.source[len] = source[r];
+        kept.target[len] = target[r];
+        kept.offset[len] = offset[r];
+        kept.least[len] = least[r];
+        kept.greatest[len] = greatest[r];
         len += counts(t, v, dist[t]);
         r += 1;
     }
-    Kept {
-        source: from,
-        target: to,
-        offset: offsets,
-        least: low,
-        greatest: high,
-        len: len,
-    }
+    kept.len = len;
+    kept
 }
 
 // The two ends of the rate of v, of rules within their limits all of whose loops turn; refused 6 where no loop reaches v.
@@ -97,16 +94,19 @@ pub fn ends_to<'a>(
     requires { ⌜ (Limits (now source) (now target) (now offset) m n) × (Ordered (now least) (now greatest) m blank) × (Live (shape (now source) (now target) (now offset) m)) × (v < n) ⌝ }
     ensures { λ r. ⌜ RatedTo (shape (now (source .entry)) (now (target .entry)) (now (offset .entry)) m) (rangesIn (now (least .entry)) (now (greatest .entry))) v r ⌝ }
 {
-    let far = loops::distances_to(source, target, m, n, v);
+    let far = distances::distances_to(source, target, m, n, v);
     if n <= far.count {
         return ends::ends(source, target, offset, least, greatest, blank, m, n); // every loop reaches v
     }
-    let dist = far.dist;
-    let kept = gather(source, target, offset, least, greatest, m, n, v, &dist);
-    let from = kept.source;
-    let to = kept.target;
-    let offsets = kept.offset;
-    let low = kept.least;
-    let high = kept.greatest;
-    ends::ends(&from, &to, &offsets, &low, &high, blank, kept.len, n)
+    let kept = gather(source, target, offset, least, greatest, m, n, v, &far.dist);
+    ends::ends(
+        &kept.source,
+        &kept.target,
+        &kept.offset,
+        &kept.least,
+        &kept.greatest,
+        blank,
+        kept.len,
+        n,
+    )
 }

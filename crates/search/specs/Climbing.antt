@@ -17,8 +17,8 @@
 --   settling-zeros, settling-start, settling-ready, settling-carried, settling-scanned, settling-sound, settling-quiet, settling-found, settling-on            the loop of passes
 --   least-low                       the least values that keep every rule are low
 --   rising-start, rising-query, query-limits, rising-end, walk-loop, walk-turns, rising-walk, rising-less                           the loop of ratios
-use mathlib.Core.Path.{_≡_, refl, sym, ap, subst}
-use mathlib.Core.Bool.{Bool, true, false}
+use mathlib.Core.Path.{_≡_, refl, sym, ap, _∙_, subst}
+use mathlib.Core.Bool.{Bool, true, false, true≢false, false≢true}
 use mathlib.Core.Logic.{_⊎_, inl, inr, ⊎-elim, by-cases}
 use mathlib.Core.List.{List, [], _∷_}
 use Prim.Native.Nat.{ℕ, suc, _+_, _*_, _-_, _/_, _≤_, _<_}
@@ -123,13 +123,10 @@ Quotient a e p q = (d : ℕ) × Reduces a e p q d
 abbrev pub left : ℕ → ℕ → ℕ
 left P Q = 3774873600000001 - P * (3840 * 3840) / Q
 
--- a flag is one or the other, and not both
+-- a flag is one or the other
 pub either : (f : Bool) → (f ≡ true) ⊎ (f ≡ false)
 either true = inl refl
 either false = inr refl
-
-pub not-both : (f : Bool) → f ≡ true → f ≡ false → ⊥
-not-both f p q = let z : _≡_ {A = ℕ} 0 1 = cc in omega arith
 
 -- a pass -----------------------------------------------------------------------------------------------------------------------------------
 -- the rules before number i, and none: those that are done before rule i of a pass in the file's order, and in a pass in another order
@@ -143,7 +140,7 @@ pub before-next : (i r : ℕ) → Before (i + 1) r → (r ≡ i) ⊎ Before i r
 before-next i r b = by-cases (ℕ-discrete r i) inl (λ d. inr (omega arith))
 
 pub told-start : {S : Shape} {x : List ℕ} → Told S x x false
-told-start = record { quiet = λ e. refl; busy = λ e. absurd (not-both false e refl) }
+told-start = record { quiet = λ e. refl; busy = λ e. absurd (false≢true e) }
 
 module _ {S : Shape} {D : ℕ → ℕ} {P Q : ℕ} {x₀ par₀ : List ℕ} (ready : Ready S D P Q x₀ par₀) where
   pub going-start : (Done : ℕ → Type 0) → ((r : ℕ) → ¬ (Done r)) → Going S D P Q x₀ par₀ x₀ par₀ Done 0
@@ -209,7 +206,7 @@ module _ {S : Shape} {D : ℕ → ℕ} {P Q : ℕ} {x₀ par₀ : List ℕ} (rea
           let (l, ex, ep) = risen .raised e in
           rw (t, ex)
           (record {
-            quiet = λ e. absurd (not-both true refl e);
+            quiet = λ e. absurd (true≢false e);
             busy = λ e. (i, is-rule, omega (arith, getD-set-same x (S.target i) (getD x (S.source i) 0 + Q * D i - P * S.offset i) 0 in-x, so-far .up (S.target i)));
           })
 
@@ -327,8 +324,8 @@ module _ {S : Shape} {D : ℕ → ℕ} {n P Q : ℕ} (query : Query S D n P Q) w
             record {
               keeps = λ z. passed .quiet e;
               least = λ z. passed .raised .least;
-              walk = λ z. absurd (not-both false z refl);
-              above = λ z. absurd (not-both false z refl);
+              walk = λ z. absurd (false≢true z);
+              above = λ z. absurd (false≢true z);
             }
 
         module _ {g : Bool} {a e : ℕ} (scanned : Scanned S D n par g a e) where
@@ -337,8 +334,8 @@ module _ {S : Shape} {D : ℕ → ℕ} {n P Q : ℕ} (query : Query S D n P Q) w
           settling-found t =
               let w = scanned .some t in
               record {
-                keeps = λ z. absurd (not-both g t z);
-                least = λ z. absurd (not-both g t z);
+                keeps = λ z. absurd (true≢false (sym t ∙ z));
+                least = λ z. absurd (true≢false (sym t ∙ z));
                 walk = λ z. walk-of w;
                 above = λ z. round (w .at) (w .walk) (w .some-rule) (w .closed) (w .parents) (w .delays-are) (w .offsets-are);
               }

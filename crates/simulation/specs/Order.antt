@@ -18,7 +18,7 @@
 --   Placing sources offsets first n k order done
 --                     == the search for the order, with k places filled
 use mathlib.Core.Path.{_≡_, refl, sym, ap, subst, _∙_}
-use mathlib.Core.Bool.{Bool, true, false}
+use mathlib.Core.Bool.{Bool, true, false, true≢false, false≢true}
 use mathlib.Core.Logic.{_≢_, ⊎-elim, by-cases}
 use mathlib.Core.List.{List}
 use Prim.Native.Nat.{ℕ, zero, suc, _+_, _-_, _≤_, _<_}
@@ -124,10 +124,6 @@ total-none L zero = refl
 total-none L (suc k) = omega (arith, total-none L k, zeros-at L k)
 
 -- whether a group is clear ---------------------------------------------------------------------------------------------------------------------
--- a flag is not both
-pub not-both : (f : Bool) → f ≡ true → f ≡ false → ⊥
-not-both f p q = let z : _≡_ {A = ℕ} 0 1 = cc in omega arith
-
 module _ (sources offsets : List ℕ) (from : ℕ) (done : List ℕ) where
   pub clear-start : Clear sources offsets from from done
   clear-start = record { each = λ j a b z. absurd (omega arith) }
@@ -136,11 +132,11 @@ module _ (sources offsets : List ℕ) (from : ℕ) (done : List ℕ) where
   clear-step k old new = record { each = λ j a b z. by-cases (ℕ-discrete j k) (λ e. rw e (new (rw e at z))) (λ d. old .each j a (omega arith) z) }
 
   pub ready-clear : (to k : ℕ) → to ≤ k → Clear sources offsets from k done → Ready sources offsets from to done true
-  ready-clear to k l h = record { clear = λ e. record { each = λ j a b. h .each j a (omega arith) }; blocked = λ e. absurd (not-both true refl e) }
+  ready-clear to k l h = record { clear = λ e. record { each = λ j a b. h .each j a (omega arith) }; blocked = λ e. absurd (true≢false e) }
 
   pub ready-blocked : (to j s : ℕ) → from ≤ j → j < to → getD offsets j 0 ≡ 0 → s ≡ getD sources j 0 → getD done s 0 ≡ 0 → Ready sources offsets from to done false
   ready-blocked to j s a b z e u =
-      record { clear = λ f. absurd (not-both false f refl); blocked = λ f. record { place = j; from-low = a; to-high = b; at-once = z; undone = rw (← e) u } }
+      record { clear = λ f. absurd (false≢true f); blocked = λ f. record { place = j; from-low = a; to-high = b; at-once = z; undone = rw (← e) u } }
 
 -- the next transition --------------------------------------------------------------------------------------------------------------------------
 module _ (sources offsets first done : List ℕ) where

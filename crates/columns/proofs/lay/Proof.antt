@@ -5,9 +5,9 @@ use mathlib.Core.Path.{_≡_, refl, sym, _∙_}
 use native.Mathlib.Omega.{arith}
 use borrow.Author.Needs.{needs}
 use mathlib.Core.Logic.{⊎-elim}
-use mathlib.Core.Bool.{false}
+use mathlib.Core.Bool.{false, true≢false}
 use Rattle.table.specs.Form.{ruleOf}
-use Rattle.columns.specs.Lay.{Laid, laid-start, laid-next, ordered, true-false}
+use Rattle.columns.specs.Lay.{Laid, laid-start, laid-next, ordered}
 use Rattle.columns.proofs.lay.Statement.{statement}
 use Rattle.columns.proofs.lay.Tie as tie
 
@@ -71,7 +71,7 @@ loop-again c =
     let s = l .before in
     let k = c .before .before in
     let given : c .if1 .blank ≡ false → (l .loop .blank ≡ false) × (k .laid .result .least ≡ k .laid .result .greatest) =
-    ⊎-elim (λ w e. absurd (true-false (sym (w .1) ∙ e))) (λ w e. (sym (w .1) ∙ e, omega (arith, k .laid .ensures .1, w .0, ordered (ruleOf (s .args .t1) (l .loop .i) .delay)))) (c .if1 .came) in
+    ⊎-elim (λ w e. absurd (true≢false (sym (w .1) ∙ e))) (λ w e. (sym (w .1) ∙ e, omega (arith, k .laid .ensures .1, w .0, ordered (ruleOf (s .args .t1) (l .loop .i) .delay)))) (c .if1 .came) in
     (refl, omega arith, s .pre .m-high, laid-next (s .args .t1) (l .loop .i) _ _ _ _ _ (l .loop .blank) (c .if1 .blank) _ _ _ _ _ (l .loop .inv .3) (omega arith) (k .laid .ensures .0) (k .laid .ensures .1) given)
 
 returns : tie.Need-returns Inv-loop μ-loop

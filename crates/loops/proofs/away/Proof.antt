@@ -1,7 +1,7 @@
 -- `loops::away` meets its contract: how far a transition is from v.
 -- Assumes nothing.
 use mathlib.Core.Path.{sym, _∙_}
-use Rattle.loops.specs.Near.{away-home, away-other}
+use Rattle.distances.specs.Near.{away-home, away-other}
 use native.Mathlib.Omega.{arith}
 use borrow.Author.Needs.{needs}
 use Rattle.loops.proofs.away.Statement.{statement}

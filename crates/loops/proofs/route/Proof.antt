@@ -5,7 +5,7 @@ use Prim.Native.Nat.{_-_, _≤_, _<_}
 use mathlib.Core.Path.{_≡_, refl, ap}
 use lib.ListN.{length, getD, length-set}
 use Rattle.loops.specs.Found.{Routed, route-step, route-ends, numbers}
-use Rattle.loops.specs.Near.{followed}
+use Rattle.loops.specs.Ways.{followed}
 use native.Mathlib.Omega.{arith}
 use Rattle.loops.proofs.route.Statement.{statement}
 use Rattle.loops.proofs.route.Tie as tie

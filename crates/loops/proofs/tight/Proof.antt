@@ -1,9 +1,9 @@
 -- `loops::tight` meets its contract: a rule is kept with nothing to spare. No product is wider than 2^62.
 -- Assumes nothing.
 use Prim.Native.Nat.{_*_, _≤_}
-use mathlib.Core.Path.{refl, ap}
+use mathlib.Core.Path.{ap}
 use native.Mathlib.Nat.{mul-le-mul}
-use Rattle.peel.specs.Sum.{not-both}
+use mathlib.Core.Bool.{true≢false, false≢true}
 use native.Mathlib.Omega.{arith}
 use borrow.Author.Needs.{needs}
 use Rattle.loops.proofs.tight.Statement.{statement}
@@ -30,12 +30,12 @@ add-if1-2 c = let b : c .wide-offset .result ≤ 15 = omega arith in omega (arit
 returns : tie.Need-returns
 returns c =
     let a = c .before .before .before .args in
-    (λ z. omega (arith, c .if1 .taken, ap (λ x. a .q * x) (c .before .before .wide-delay .ensures), ap (λ x. a .p * x) (c .before .wide-offset .ensures)), λ z. absurd (not-both _ refl z))
+    (λ z. omega (arith, c .if1 .taken, ap (λ x. a .q * x) (c .before .before .wide-delay .ensures), ap (λ x. a .p * x) (c .before .wide-offset .ensures)), λ z. absurd (true≢false z))
 
 returns-2 : tie.Need-returns-2
 returns-2 c =
     let a = c .before .before .before .args in
-    (λ z. absurd (not-both _ z refl), λ z e. omega (arith, c .if1 .left, e, ap (λ x. a .q * x) (c .before .before .wide-delay .ensures), ap (λ x. a .p * x) (c .before .wide-offset .ensures)))
+    (λ z. absurd (false≢true z), λ z e. omega (arith, c .if1 .left, e, ap (λ x. a .q * x) (c .before .before .wide-delay .ensures), ap (λ x. a .p * x) (c .before .wide-offset .ensures)))
 
 pub tight-spec : {M : Type 1} → statement M
 tight-spec =

@@ -6,7 +6,8 @@ use mathlib.Core.Path.{_≡_}
 use lib.ListN.{getD}
 use mathlib.Core.Logic.{⊎-elim}
 use Rattle.peel.specs.Plain.{plain}
-use Rattle.loops.specs.Near.{away-most, Ways, ways-none, ways-led, ways-passed}
+use Rattle.distances.specs.Near.{away-most}
+use Rattle.loops.specs.Ways.{Ways, ways-none, ways-led, ways-passed}
 use native.Mathlib.Omega.{arith}
 use Rattle.loops.proofs.ways.Statement.{statement}
 use Rattle.loops.proofs.ways.Tie as tie

@@ -1,10 +1,9 @@
 -- `search::raise` meets its contract, on the way that stores and on the one that leaves all as it is.
 -- Assumes nothing.
 use mathlib.Core.Path.{refl}
-use mathlib.Core.Bool.{true, false}
+use mathlib.Core.Bool.{true, false, true≢false, false≢true}
 use native.Mathlib.Omega.{arith}
 use borrow.Author.Needs.{needs}
-use Rattle.search.specs.Climbing.{not-both}
 use Rattle.search.proofs.raise.Statement.{statement}
 use Rattle.search.proofs.raise.Tie as tie
 
@@ -33,7 +32,7 @@ add-if1 : tie.Need-add-if1
 add-if1 c = search needs
 
 returns : tie.Need-returns
-returns c = record { raised = λ e. absurd (not-both false e refl); kept = λ e. (omega arith, refl, refl) }
+returns c = record { raised = λ e. absurd (false≢true e); kept = λ e. (omega arith, refl, refl) }
 
 sub-x : tie.Need-sub-x
 sub-x c = search needs
@@ -57,7 +56,7 @@ element-write-par : tie.Need-element-write-par
 element-write-par c = search needs
 
 returns-2 : tie.Need-returns-2
-returns-2 c = record { raised = λ e. (omega arith, refl, refl); kept = λ e. absurd (not-both true refl e) }
+returns-2 c = record { raised = λ e. (omega arith, refl, refl); kept = λ e. absurd (true≢false e) }
 
 pub raise-spec : {M : Type 1} → statement M
 raise-spec =

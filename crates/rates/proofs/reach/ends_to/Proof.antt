@@ -12,22 +12,22 @@ distances-to-requires : tie.Need-distances-to-requires
 distances-to-requires c κs = (limits-plain _ _ _ _ _ (c .pre .0), c .pre .3)
 
 ends-requires : tie.Need-ends-requires
-ends-requires c κs = let s = c .before .before .before in (s .pre .0, s .pre .1, s .pre .2)
+ends-requires c κs = let s = c .before .before in (s .pre .0, s .pre .1, s .pre .2)
 
 returns : tie.Need-returns
 returns c =
-    let d = c .before .before .before in
+    let d = c .before .before in
     let s = d .before in
     let all = gathers-as-they-are _ _ _ _ _ (limits-plain _ _ _ _ _ (s .pre .0)) _ _ (d .distances-to .ensures) (s .args .offset .now) (c .before .if1 .taken) in
     rated-to _ _ _ _ _ (λ r. r) all (λ j b. refl) (λ j b. refl) _ (c .ends .ensures)
 
 gather-requires : tie.Need-gather-requires
-gather-requires c κs = c .before .before .before .before .before .pre .0
+gather-requires c κs = c .before .before .before .before .pre .0
 
 ends-requires-2 : tie.Need-ends-requires-2
 ends-requires-2 c κs =
-    let g = c .before .before .before .before .before .before .before .before .before .before in
-    let d = g .before .before .before .before .before in
+    let g = c .before .before .before .before .before .before in
+    let d = g .before .before .before .before in
     let s = d .before in
     let near = gathers _ _ _ _ _ (limits-plain _ _ _ _ _ (s .pre .0)) _ _ (d .distances-to .ensures) _ _ _ _ _ _ _ _ _ (g .gather .ensures) in (
       limits-gathered _ _ _ _ _ _ _ _ _ _ _ _ _ _ (g .gather .ensures) _ (s .pre .0),
@@ -37,8 +37,8 @@ ends-requires-2 c κs =
 
 returns-2 : tie.Need-returns-2
 returns-2 c =
-    let g = c .before .before .before .before .before .before .before .before .before .before .before in
-    let d = g .before .before .before .before .before in
+    let g = c .before .before .before .before .before .before .before in
+    let d = g .before .before .before .before in
     let s = d .before in
     let near = gathers _ _ _ _ _ (limits-plain _ _ _ _ _ (s .pre .0)) _ _ (d .distances-to .ensures) _ _ _ _ _ _ _ _ _ (g .gather .ensures) in
     rated-to _ _ _ _ _ _ near (g .gather .ensures .leasts .1) (g .gather .ensures .greatests .1) _ (c .ends2 .ensures)

@@ -8,11 +8,11 @@ use Rattle.rates.proofs.reach.gather.Statement.{statement}
 use Rattle.rates.proofs.reach.gather.Tie as tie
 
 abbrev Inv-loop : tie.InvT-loop
-Inv-loop source target offset least greatest m n v dist from₀ to₀ offsets₀ low₀ high₀ len₀ r₀ from to offsets low high len r =
-    (r ≤ m) × Taken source target offset least greatest v dist r from to offsets low high len
+Inv-loop source target offset least greatest m n v dist kept₀ len₀ r₀ kept len r =
+    (r ≤ m) × Taken source target offset least greatest v dist r (kept .source) (kept .target) (kept .offset) (kept .least) (kept .greatest) len
 
 abbrev μ-loop : tie.MeasureT-loop
-μ-loop source target offset least greatest m n v dist from₀ to₀ offsets₀ low₀ high₀ len₀ r₀ from to offsets low high len r = m - r
+μ-loop source target offset least greatest m n v dist kept₀ len₀ r₀ kept len r = m - r
 
 loop-holds : tie.Need-loop-holds Inv-loop μ-loop
 loop-holds c = (omega arith, taken-none _ _ _ _ _ _ _)
@@ -26,65 +26,65 @@ element-copy-out-wide c = omega arith
 wide-requires : tie.Need-wide-requires Inv-loop μ-loop
 wide-requires c κs = omega arith
 
-mul-from : tie.Need-mul-from Inv-loop μ-loop
-mul-from c = omega arith
+mul-kept : tie.Need-mul-kept Inv-loop μ-loop
+mul-kept c = omega arith
 
-element-copy-out-from : tie.Need-element-copy-out-from Inv-loop μ-loop
-element-copy-out-from c = omega arith
+element-copy-out-kept : tie.Need-element-copy-out-kept Inv-loop μ-loop
+element-copy-out-kept c = omega arith
 
-mul-from-2 : tie.Need-mul-from-2 Inv-loop μ-loop
-mul-from-2 c = omega arith
+mul-kept-2 : tie.Need-mul-kept-2 Inv-loop μ-loop
+mul-kept-2 c = omega arith
 
-array-write-from : tie.Need-array-write-from Inv-loop μ-loop
-array-write-from c = omega arith
+element-write-kept : tie.Need-element-write-kept Inv-loop μ-loop
+element-write-kept c = omega arith
 
-mul-to : tie.Need-mul-to Inv-loop μ-loop
-mul-to c = omega arith
+mul-kept-3 : tie.Need-mul-kept-3 Inv-loop μ-loop
+mul-kept-3 c = omega arith
 
-element-copy-out-to : tie.Need-element-copy-out-to Inv-loop μ-loop
-element-copy-out-to c = omega arith
+element-copy-out-kept-2 : tie.Need-element-copy-out-kept-2 Inv-loop μ-loop
+element-copy-out-kept-2 c = omega arith
 
-mul-to-2 : tie.Need-mul-to-2 Inv-loop μ-loop
-mul-to-2 c = omega arith
+mul-kept-4 : tie.Need-mul-kept-4 Inv-loop μ-loop
+mul-kept-4 c = omega arith
 
-array-write-to : tie.Need-array-write-to Inv-loop μ-loop
-array-write-to c = omega arith
+element-write-kept-2 : tie.Need-element-write-kept-2 Inv-loop μ-loop
+element-write-kept-2 c = omega arith
 
-mul-offsets : tie.Need-mul-offsets Inv-loop μ-loop
-mul-offsets c = omega arith
+mul-kept-5 : tie.Need-mul-kept-5 Inv-loop μ-loop
+mul-kept-5 c = omega arith
 
-element-copy-out-offsets : tie.Need-element-copy-out-offsets Inv-loop μ-loop
-element-copy-out-offsets c = omega arith
+element-copy-out-kept-3 : tie.Need-element-copy-out-kept-3 Inv-loop μ-loop
+element-copy-out-kept-3 c = omega arith
 
-mul-offsets-2 : tie.Need-mul-offsets-2 Inv-loop μ-loop
-mul-offsets-2 c = omega arith
+mul-kept-6 : tie.Need-mul-kept-6 Inv-loop μ-loop
+mul-kept-6 c = omega arith
 
-array-write-offsets : tie.Need-array-write-offsets Inv-loop μ-loop
-array-write-offsets c = omega arith
+element-write-kept-3 : tie.Need-element-write-kept-3 Inv-loop μ-loop
+element-write-kept-3 c = omega arith
 
-mul-low : tie.Need-mul-low Inv-loop μ-loop
-mul-low c = omega arith
+mul-kept-7 : tie.Need-mul-kept-7 Inv-loop μ-loop
+mul-kept-7 c = omega arith
 
-element-copy-out-low : tie.Need-element-copy-out-low Inv-loop μ-loop
-element-copy-out-low c = omega arith
+element-copy-out-kept-4 : tie.Need-element-copy-out-kept-4 Inv-loop μ-loop
+element-copy-out-kept-4 c = omega arith
 
-mul-low-2 : tie.Need-mul-low-2 Inv-loop μ-loop
-mul-low-2 c = omega arith
+mul-kept-8 : tie.Need-mul-kept-8 Inv-loop μ-loop
+mul-kept-8 c = omega arith
 
-array-write-low : tie.Need-array-write-low Inv-loop μ-loop
-array-write-low c = omega arith
+element-write-kept-4 : tie.Need-element-write-kept-4 Inv-loop μ-loop
+element-write-kept-4 c = omega arith
 
-mul-high : tie.Need-mul-high Inv-loop μ-loop
-mul-high c = omega arith
+mul-kept-9 : tie.Need-mul-kept-9 Inv-loop μ-loop
+mul-kept-9 c = omega arith
 
-element-copy-out-high : tie.Need-element-copy-out-high Inv-loop μ-loop
-element-copy-out-high c = omega arith
+element-copy-out-kept-5 : tie.Need-element-copy-out-kept-5 Inv-loop μ-loop
+element-copy-out-kept-5 c = omega arith
 
-mul-high-2 : tie.Need-mul-high-2 Inv-loop μ-loop
-mul-high-2 c = omega arith
+mul-kept-10 : tie.Need-mul-kept-10 Inv-loop μ-loop
+mul-kept-10 c = omega arith
 
-array-write-high : tie.Need-array-write-high Inv-loop μ-loop
-array-write-high c = omega arith
+element-write-kept-5 : tie.Need-element-write-kept-5 Inv-loop μ-loop
+element-write-kept-5 c = omega arith
 
 mul-counts : tie.Need-mul-counts Inv-loop μ-loop
 mul-counts c = let w = c .before .before .before .before .before in let l = w .before .before .before in omega (arith, w .wide .ensures, l .before .pre .fits (l .loop .r) (w .before .before .loop-test .taken), l .before .pre .few-transitions)
@@ -128,26 +128,26 @@ gather-spec =
     mul-wide
     element-copy-out-wide
     wide-requires
-    mul-from
-    element-copy-out-from
-    mul-from-2
-    array-write-from
-    mul-to
-    element-copy-out-to
-    mul-to-2
-    array-write-to
-    mul-offsets
-    element-copy-out-offsets
-    mul-offsets-2
-    array-write-offsets
-    mul-low
-    element-copy-out-low
-    mul-low-2
-    array-write-low
-    mul-high
-    element-copy-out-high
-    mul-high-2
-    array-write-high
+    mul-kept
+    element-copy-out-kept
+    mul-kept-2
+    element-write-kept
+    mul-kept-3
+    element-copy-out-kept-2
+    mul-kept-4
+    element-write-kept-2
+    mul-kept-5
+    element-copy-out-kept-3
+    mul-kept-6
+    element-write-kept-3
+    mul-kept-7
+    element-copy-out-kept-4
+    mul-kept-8
+    element-write-kept-4
+    mul-kept-9
+    element-copy-out-kept-5
+    mul-kept-10
+    element-write-kept-5
     mul-counts
     element-copy-out-counts
     counts-requires

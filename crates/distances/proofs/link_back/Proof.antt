@@ -1,13 +1,13 @@
--- `loops::link_back` meets its contract: the rules into each transition, linked from the last to the first, less those that only repeat the one after them.
+-- `distances::link_back` meets its contract: the rules into each transition, linked from the last to the first, less those that only repeat the one after them.
 -- The loop's invariant: the rules passed are linked. The measure is the number of rules left.
 -- Assumes nothing.
 use Prim.Native.Nat.{_-_, _≤_}
 use Rattle.peel.specs.Linked.{Linked, linked-none}
-use Rattle.loops.specs.Links.{SameSource, linked-back}
+use Rattle.distances.specs.Links.{SameSource, linked-back}
 use mathlib.Core.Path.{_≡_}
 use native.Mathlib.Omega.{arith}
-use Rattle.loops.proofs.link_back.Statement.{statement}
-use Rattle.loops.proofs.link_back.Tie as tie
+use Rattle.distances.proofs.link_back.Statement.{statement}
+use Rattle.distances.proofs.link_back.Tie as tie
 
 abbrev Inv-loop : tie.InvT-loop
 Inv-loop source target len head₀ next₀ r₀ head next r = (r ≤ len) × Linked (SameSource source) target r head next

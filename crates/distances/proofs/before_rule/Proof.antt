@@ -1,11 +1,11 @@
--- `loops::before_rule` meets its contract: what stands before a rule in its list.
+-- `distances::before_rule` meets its contract: what stands before a rule in its list.
 -- Assumes nothing.
 use mathlib.Core.Path.{refl, sym}
 use mathlib.Core.Logic.{inl, inr}
 use borrow.Author.Needs.{needs}
 use native.Mathlib.Omega.{arith}
-use Rattle.loops.proofs.before_rule.Statement.{statement}
-use Rattle.loops.proofs.before_rule.Tie as tie
+use Rattle.distances.proofs.before_rule.Statement.{statement}
+use Rattle.distances.proofs.before_rule.Tie as tie
 
 wide-requires : tie.Need-wide-requires
 wide-requires c κs = search needs

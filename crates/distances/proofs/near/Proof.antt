@@ -1,13 +1,13 @@
--- `loops::near` meets its contract: the least number of rules from each transition to v.
+-- `distances::near` meets its contract: the least number of rules from each transition to v.
 -- The loop's invariant: the rules into v and into those before `done` in the queue were looked at. The measure is the number of places left in the queue.
 -- Assumes nothing.
 use Prim.Native.Nat.{_-_}
 use mathlib.Core.Logic.{inl, inr}
 use Rattle.peel.specs.Plain.{plain}
-use Rattle.loops.specs.Queue.{Spreading, ready-home, ready-next, spreading-starts, spreading-next, spreading-ends}
+use Rattle.distances.specs.Queue.{Spreading, ready-home, ready-next, spreading-starts, spreading-next, spreading-ends}
 use native.Mathlib.Omega.{arith}
-use Rattle.loops.proofs.near.Statement.{statement}
-use Rattle.loops.proofs.near.Tie as tie
+use Rattle.distances.proofs.near.Statement.{statement}
+use Rattle.distances.proofs.near.Tie as tie
 
 abbrev Inv-loop : tie.InvT-loop
 Inv-loop source target len n head next v dist₀ order₀ count₀ done₀ dist order count done = Spreading (plain source target len) n v dist order done count

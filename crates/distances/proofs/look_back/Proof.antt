@@ -1,4 +1,4 @@
--- `loops::look_back` meets its contract: the rules into t are looked at, and each source not found before is d away.
+-- `distances::look_back` meets its contract: the rules into t are looked at, and each source not found before is d away.
 -- The loop's invariant: so it is of the rules looked at. The measure is the place of the next rule.
 -- Where all transitions were found it is so of the rules that are left too.
 -- Assumes nothing.
@@ -6,10 +6,10 @@ use Prim.Native.Nat.{_-_}
 use mathlib.Core.Path.{_≡_}
 use Rattle.peel.specs.Plain.{plain}
 use Rattle.peel.specs.Linked.{Points, points-first, points-last, points-rule, points-next, points-all}
-use Rattle.loops.specs.Queue.{Looking, looking-starts, looking-next, looking-full}
+use Rattle.distances.specs.Queue.{Looking, looking-starts, looking-next, looking-full}
 use native.Mathlib.Omega.{arith}
-use Rattle.loops.proofs.look_back.Statement.{statement}
-use Rattle.loops.proofs.look_back.Tie as tie
+use Rattle.distances.proofs.look_back.Statement.{statement}
+use Rattle.distances.proofs.look_back.Tie as tie
 
 abbrev Inv-loop : tie.InvT-loop
 Inv-loop source target len n head next v t d count dist₀ order₀ found₀ left₀ dist order found left = Looking (plain source target len) n v t d dist₀ order₀ count dist order found left × Points target len t left

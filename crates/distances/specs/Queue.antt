@@ -22,7 +22,7 @@ use lib.Seq.{getD-set-same, getD-set-other, set-getD}
 use Rattle.model.specs.Shape.{Shape, Fits}
 use Rattle.peel.specs.Sum.{sum, sum-but, sum-most, sign, sign-some, sign-none, sign-most, inside}
 use Rattle.peel.specs.Linked.{Row, row-none, row-set}
-use Rattle.loops.specs.Near.{Way, Near, near-none, near-put, Settled, away-other}
+use Rattle.distances.specs.Near.{Way, Near, near-none, near-put, Settled, away-other}
 
 -- how many of the n distances were not found: 512 stands for those
 abbrev pub unknown : ℕ → List ℕ → ℕ

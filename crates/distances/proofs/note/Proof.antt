@@ -1,10 +1,10 @@
--- `loops::note` meets its contract: a transition's distance is put down unless it was found before.
+-- `distances::note` meets its contract: a transition's distance is put down unless it was found before.
 -- Assumes nothing.
 use mathlib.Core.Path.{_∙_}
 use borrow.Author.Needs.{needs}
-use Rattle.loops.specs.Queue.{noted}
-use Rattle.loops.proofs.note.Statement.{statement}
-use Rattle.loops.proofs.note.Tie as tie
+use Rattle.distances.specs.Queue.{noted}
+use Rattle.distances.proofs.note.Statement.{statement}
+use Rattle.distances.proofs.note.Tie as tie
 
 mul-had : tie.Need-mul-had
 mul-had c = search needs

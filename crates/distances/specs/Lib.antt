@@ -1,0 +1,3 @@
+pub mod Links
+pub mod Near
+pub mod Queue
