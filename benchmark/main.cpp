@@ -8,6 +8,7 @@
 #include <functional>
 
 #include "boost.hpp"
+#include "call.hpp"
 #include "exact.hpp"
 #include "period.h"
 #include "tables.hpp"
@@ -64,7 +65,7 @@ struct Whole {
 };
 
 static void analyse(const Table& t, Whole& out) {
-    out.result = period_analyse(t.n, t.source.data(), t.m(), t.target.data(), t.m(), t.offset.data(), t.m(), t.delay.data(), t.m(),
+    out.result = call(period_analyse, t.n, t.source.data(), t.m(), t.target.data(), t.m(), t.offset.data(), t.m(), t.delay.data(), t.m(),
                                 t.known.data(), t.m(), out.schedule, HIGHEST_N, out.low, HIGHEST_N, out.high, HIGHEST_N);
 }
 
@@ -204,12 +205,12 @@ static Table longest(int number) {
 }
 
 static period_table read(const std::vector<uint8_t>& bytes, Table& t) {
-    return period_read(bytes.data(), bytes.size(), t.source.data(), t.m(), t.target.data(), t.m(), t.offset.data(), t.m(), t.delay.data(), t.m(),
+    return call(period_read, bytes.data(), bytes.size(), t.source.data(), t.m(), t.target.data(), t.m(), t.offset.data(), t.m(), t.delay.data(), t.m(),
                        t.known.data(), t.m());
 }
 
 static period_count write(const Table& t, std::vector<uint8_t>& out) {
-    return period_write(t.n, t.source.data(), t.m(), t.target.data(), t.m(), t.offset.data(), t.m(), t.delay.data(), t.m(), t.known.data(), t.m(),
+    return call(period_write, t.n, t.source.data(), t.m(), t.target.data(), t.m(), t.offset.data(), t.m(), t.delay.data(), t.m(), t.known.data(), t.m(),
                         out.data(), out.size());
 }
 
@@ -240,10 +241,10 @@ static void files_part() {
 
 using Bytes = std::vector<uint8_t>;
 
-static period_bids_result bids(const Bytes& first, const Bytes& second) { return period_bids(first.data(), first.size(), second.data(), second.size()); }
+static period_bids_result bids(const Bytes& first, const Bytes& second) { return call(period_bids, first.data(), first.size(), second.data(), second.size()); }
 
 static void analyse(const Bytes& file, Whole& out) {
-    out.result = period_file_analyse(file.data(), file.size(), out.schedule, HIGHEST_N, out.low, HIGHEST_N, out.high, HIGHEST_N);
+    out.result = call(period_file_analyse, file.data(), file.size(), out.schedule, HIGHEST_N, out.low, HIGHEST_N, out.high, HIGHEST_N);
 }
 
 // Two files of a family side by side, beside the analyses of the two: the better one must cost two readings and two measurings, and no more.
@@ -276,7 +277,7 @@ static void bids_part() {
 // ------------------------------------------------------------------------------------------------------------------- rates
 
 static period_rate_result rate(const Table& t, size_t v) {
-    return period_rate(t.n, t.source.data(), t.m(), t.target.data(), t.m(), t.offset.data(), t.m(), t.delay.data(), t.m(), t.known.data(), t.m(), v);
+    return call(period_rate, t.n, t.source.data(), t.m(), t.target.data(), t.m(), t.offset.data(), t.m(), t.delay.data(), t.m(), t.known.data(), t.m(), v);
 }
 
 static void rates_part() {
@@ -300,7 +301,7 @@ static void rates_part() {
 static std::vector<uint64_t> times(HIGHEST_N * 1024);
 
 static period_status simulate(const Table& t, size_t occurrences) {
-    return period_simulate(t.n, t.source.data(), t.m(), t.target.data(), t.m(), t.offset.data(), t.m(), t.delay.data(), t.m(), t.known.data(), t.m(),
+    return call(period_simulate, t.n, t.source.data(), t.m(), t.target.data(), t.m(), t.offset.data(), t.m(), t.delay.data(), t.m(), t.known.data(), t.m(),
                            occurrences, times.data(), times.size());
 }
 
