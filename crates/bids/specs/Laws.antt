@@ -24,7 +24,7 @@ bid-found s b a x e j =
 -- the high ends are those that `Answers` speaks of: the greatest period over all fillings of each table
 pub lower-end : (x y r : File) (w f p : ℕ) → BetterOf x y r w f p → readOf (now x) .refusal ≡ 0 → readOf (now y) .refusal ≡ 0
     → (a b : Answer) → Judges (readOf (now x) .table) (found a) → Judges (readOf (now y) .table) (found b)
-    → (a .highP * b .highQ ≤ b .highP * a .highQ → (r ≡ x) × (w ≡ 0)) × (b .highP * a .highQ < a .highP * b .highQ → (r ≡ y) × (w ≡ 1))
+    → (a .ends .highP * b .ends .highQ ≤ b .ends .highP * a .ends .highQ → (r ≡ x) × (w ≡ 0)) × (b .ends .highP * a .ends .highQ < a .ends .highP * b .ends .highQ → (r ≡ y) × (w ≡ 1))
 lower-end x y r w f p h e g a b j k = (
   λ l. let z = subst (λ (c : Choice). Handed c (h .first) x y r w f p) (choice ∙ sym (choice-first (answeredBid a) (answeredBid b) (omega arith) (omega arith) (le-ltb _ _ l))) (h .handed) in (z .0, z .1),
   λ l. let z = subst (λ (c : Choice). Handed c (h .first) x y r w f p) (choice ∙ sym (choice-second (answeredBid a) (answeredBid b) (omega arith) (omega arith) (lt-ltb _ _ l))) (h .handed) in (z .0, z .1),

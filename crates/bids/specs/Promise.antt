@@ -46,7 +46,7 @@ abbrev pub refusedBid : ℕ → ℕ → Bid
 refusedBid f p = record { refusal = f; place = p; exact = false; low = ratio 0 0; high = ratio 0 0 }
 
 abbrev pub answeredBid : Answer → Bid
-answeredBid a = record { refusal = 0; place = 0; exact = a .exact; low = ratio (a .lowP) (a .lowQ); high = ratio (a .highP) (a .highQ) }
+answeredBid a = record { refusal = 0; place = 0; exact = a .ends .exact; low = ratio (a .ends .lowP) (a .ends .lowQ); high = ratio (a .ends .highP) (a .ends .highQ) }
 
 -- no buffer is lent, so the verdict decides: 3, then 5, 6, 11. Of a table that was read 3 never comes: it is within the limits.
 abbrev pub judgedBid : Verdict → Bid

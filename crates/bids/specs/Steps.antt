@@ -34,11 +34,11 @@ use Rattle.bids.specs.Promise.{ratio, refusedBid, judgedBid, TableBid, R
 abbrev pub Small : Ratio → Type 0
 Small r = (r .p ≤ 256000000) × (r .q ≤ 3840) × (0 < r .q)
 
-found-small : (t : Table) (a : Answer) → Judges t (found a) → Small (ratio (a .highP) (a .highQ))
+found-small : (t : Table) (a : Answer) → Judges t (found a) → Small (ratio (a .ends .highP) (a .ends .highQ))
 found-small t a j =
-    let x = j .2 .high .attained in
+    let x = j .2 .ends .high .attained in
     let most : (r : ℕ) → r < t .m → x .D r ≤ 1000000 = λ r b. omega (arith, x .fills r b, within-delays t (j .0) r b) in
-    let b = period-limits (shapeOf t) (x .D) (t .n) (a .highP) (a .highQ) (j .0 .n-high) (within-fits t (j .0)) (within-offsets t (j .0)) most (x .given) (x .lowest) in
+    let b = period-limits (shapeOf t) (x .D) (t .n) (a .ends .highP) (a .ends .highQ) (j .0 .n-high) (within-fits t (j .0)) (within-offsets t (j .0)) most (x .given) (x .lowest) in
     (b .0, b .1, x .given .Q-pos)
 
 judged-small : (t : Table) (v : Verdict) → Judges t v → judgedBid v .refusal ≡ 0 → Small (judgedBid v .high)

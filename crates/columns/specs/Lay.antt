@@ -5,15 +5,14 @@
 --   laid-start, laid-next         columns are filled rule by rule
 --   laid-shape, laid-least, laid-greatest    what the columns say is what the table says
 use mathlib.Core.Path.{_≡_, refl, sym, ap, _∙_, fun-ext}
-use mathlib.Core.Bool.{Bool, true, false}
+use mathlib.Core.Bool.{Bool, false}
 use mathlib.Core.Logic.{inl, inr, by-cases}
 use mathlib.Core.List.{List, [], _∷_}
 use Prim.Native.Nat.{ℕ, zero, suc, _+_, _≤_, _<_}
 use native.Mathlib.Omega.{arith}
-use native.Mathlib.Numerals.{add-one}
 use native.Mathlib.Decide.{ℕ-discrete, decLt}
 use lib.ListN.{length, getD, set, take, replicate, length-set, length-replicate}
-use lib.Seq.{getD-set-same, getD-set-other, getD-take}
+use lib.Seq.{getD-set-same, getD-set-other}
 use Rattle.model.specs.Shape.{Shape}
 use Rattle.model.specs.Filling.{leastOf, greatestOf}
 use Rattle.table.specs.declared.Delay.{Delay}

@@ -1,7 +1,7 @@
 // Each call on what was handed in, its answer in the form that C gets.
 ghost use mathlib.Core.Path.{_≡_};
 ghost use mathlib.Core.List.{_++_};
-ghost use Prim.Native.Nat.{ℕ, _≤_};
+ghost use Prim.Native.Nat.{_≤_};
 ghost use lib.ListN.{length, take, drop};
 ghost use Rattle.words.specs.Held.{room};
 ghost use Rattle.rates.specs.Rate.{refusedRate};

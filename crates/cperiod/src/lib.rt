@@ -2,7 +2,6 @@
 mod calls;
 
 ghost use mathlib.Core.Path.{_≡_};
-ghost use Prim.Native.Nat.{ℕ};
 ghost use Rattle.handed.specs.Columns.{columns, columnsOf, bytesOf, readInto, readAs};
 ghost use Rattle.cperiod.specs.Promise.{AnalysisFrom, RateFrom, WritingFrom, SimulationFrom, ReportFrom, numberIn};
 ghost use Rattle.cperiod.specs.Bids.{BidsFrom};

@@ -6,10 +6,10 @@
 --   Inward v w          == what filling may do to a verdict: nothing to a refusal; an answer's ends move inward, and an exact one stays
 --   filled-inward       THE THEOREM, between the verdicts on two such tables
 use mathlib.Core.Path.{_≡_, refl, sym, ap, _∙_, subst, fun-ext}
-use mathlib.Core.Bool.{Bool, true, false, true≢false}
-use mathlib.Core.Logic.{_⊎_, inl, inr, ⊎-elim, by-cases}
+use mathlib.Core.Bool.{true, true≢false}
+use mathlib.Core.Logic.{_⊎_, ⊎-elim, by-cases}
 use mathlib.Core.List.{List, [], _∷_}
-use Prim.Native.Nat.{ℕ, zero, suc, _+_, _*_, _/_, _%_, _≤_, _<_}
+use Prim.Native.Nat.{ℕ, zero, suc, _*_, _/_, _%_, _≤_, _<_}
 use native.Mathlib.Omega.{arith}
 use native.Mathlib.Decide.{decLt}
 use lib.ListN.{getD, take}
@@ -18,15 +18,14 @@ use Rattle.model.specs.Loop.{NoLoop, Live}
 use Rattle.model.specs.Knot.{Knot}
 use Rattle.model.specs.Filling.{Ranges, leastOf, greatestOf}
 use Rattle.model.specs.Period.{Period}
-use Rattle.model.specs.Ends.{Measure, LowEnd, HighEnd, Exact, Narrows}
+use Rattle.model.specs.Ends.{Measure, HighEnd, Range, RangeOf, Narrows}
 use Rattle.model.specs.Answer.{Answer, Answers}
-use Rattle.model.specs.Rate.{RateRange}
 use Rattle.theory.specs.Ends.{Steady, period-steady, low-inward, high-inward, exact-stays}
 use Rattle.table.specs.declared.Delay.{Delay}
 use Rattle.table.specs.declared.Delay.the-variants.{Known, Unknown}
 use Rattle.table.specs.declared.Rule.{Rule}
 use Rattle.table.specs.declared.Table.{Table}
-use Rattle.table.specs.Limits.{minN, maxN, maxM, maxOffset, maxDelay}
+use Rattle.table.specs.Limits.{maxDelay}
 use Rattle.table.specs.Form.{unusedRule, ruleOf}
 use Rattle.table.specs.Fields.{DelayOk, RuleOk, Ok, fields, Within, FirstBad, within-ok, ok-within, within-not-bad}
 use Rattle.table.specs.Meaning.{used, delayOf, shapeOf, rangesOf, used-rule}
@@ -50,14 +49,10 @@ pub record Filled (t t′ : Table) : Type 0 where
   pub rules : (r : ℕ) → r < t .m → FilledRule (ruleOf t r) (ruleOf t′ r)
 
 -- the ends of b lie within those of a; and where those meet, so do these, at the same quotient
-abbrev pub EndsInward : RateRange → RateRange → Type 0
+abbrev pub EndsInward : Range → Range → Type 0
 EndsInward a b =
     (a .lowP * b .lowQ ≤ b .lowP * a .lowQ) × (b .highP * a .highQ ≤ a .highP * b .highQ)
     × (a .exact ≡ true → (b .lowP ≡ a .lowP) × (b .lowQ ≡ a .lowQ) × (b .highP ≡ a .highP) × (b .highQ ≡ a .highQ) × (b .exact ≡ true))
-
--- the ends of an answer
-abbrev endsOf : Answer → RateRange
-endsOf a = record { lowP = a .lowP; lowQ = a .lowQ; highP = a .highP; highQ = a .highQ; exact = a .exact }
 
 abbrev pub Inward : Verdict → Verdict → Type 0
 Inward (outside j) w = w ≡ outside j
@@ -68,25 +63,23 @@ Inward (found a) (outside k) = ⊥
 Inward (found a) (knotted u) = ⊥
 Inward (found a) flat = ⊥
 Inward (found a) wide = ⊥
-Inward (found a) (found b) = EndsInward (endsOf a) (endsOf b)
+Inward (found a) (found b) = EndsInward (a .ends) (b .ends)
 
 -- between two ranges of delays, the second the narrower: of the period, and of a transition's rate
-pub ends-inward : (S : Shape) (M : Measure) → Steady S M → (K K′ : Ranges) → Narrows S K K′ → (a b : RateRange)
-    → LowEnd S K M (a .lowP) (a .lowQ) → HighEnd S K M (a .highP) (a .highQ) → Exact (a .lowP) (a .lowQ) (a .highP) (a .highQ) (a .exact)
-    → LowEnd S K′ M (b .lowP) (b .lowQ) → HighEnd S K′ M (b .highP) (b .highQ) → Exact (b .lowP) (b .lowQ) (b .highP) (b .highQ) (b .exact) → EndsInward a b
-ends-inward S M steady K K′ narrows a b low high meet low′ high′ meet′ =
-    (low-inward S M steady K K′ narrows _ _ _ _ low low′, high-inward S M steady K K′ narrows _ _ _ _ high high′, stays)
+pub ends-inward : (S : Shape) (M : Measure) → Steady S M → (K K′ : Ranges) → Narrows S K K′ → (a b : Range) → RangeOf S K M a → RangeOf S K′ M b → EndsInward a b
+ends-inward S M steady K K′ narrows a b x y =
+    (low-inward S M steady K K′ narrows _ _ _ _ (x .low) (y .low), high-inward S M steady K K′ narrows _ _ _ _ (x .high) (y .high), stays)
   where
     stays : a .exact ≡ true → (b .lowP ≡ a .lowP) × (b .lowQ ≡ a .lowQ) × (b .highP ≡ a .highP) × (b .highQ ≡ a .highQ) × (b .exact ≡ true)
     stays e =
-        let m : (a .lowP ≡ a .highP) × (a .lowQ ≡ a .highQ) = ⊎-elim (λ k. (k .0, k .1)) (λ k. absurd (true≢false (sym e ∙ k .1))) meet in
-        let same : HighEnd S K M (a .lowP) (a .lowQ) = rw (m .0, m .1) high in
-        let s = exact-stays S M steady K K′ narrows _ _ _ _ _ _ low same low′ high′ in (
+        let m : (a .lowP ≡ a .highP) × (a .lowQ ≡ a .highQ) = ⊎-elim (λ k. (k .0, k .1)) (λ k. absurd (true≢false (sym e ∙ k .1))) (x .meet) in
+        let same : HighEnd S K M (a .lowP) (a .lowQ) = rw (m .0, m .1) (x .high) in
+        let s = exact-stays S M steady K K′ narrows _ _ _ _ _ _ (x .low) same (y .low) (y .high) in (
           s .0 .0,
           s .0 .1,
           s .1 .0 ∙ m .0,
           s .1 .1 ∙ m .1,
-          ⊎-elim (λ k. k .2) (λ k. absurd (k .0 (s .0 .0 ∙ sym (s .1 .0), s .0 .1 ∙ sym (s .1 .1)))) meet′,
+          ⊎-elim (λ k. k .2) (λ k. absurd (k .0 (s .0 .0 ∙ sym (s .1 .0), s .0 .1 ∙ sym (s .1 .1)))) (y .meet),
         )
 
 -- --------------------------------------------------------------------------------------------------------------------------------- the fields
@@ -176,7 +169,7 @@ module _ (t t′ : Table) (f : Filled t t′) where
   -- the answer for the second table, read with the shape of the first
   inward : (a b : Answer) → Within t → Answers (shapeOf t) (rangesOf t) (t .n) a → Answers (shapeOf t) (rangesOf t′) (t′ .n) b → Inward (found a) (found b)
   inward a b w x y =
-      ends-inward (shapeOf t) (Period (shapeOf t)) (period-steady (shapeOf t)) (rangesOf t) (rangesOf t′) (narrows-filled w) (endsOf a) (endsOf b) (x .low) (x .high) (x .meet) (y .low) (y .high) (y .meet)
+      ends-inward (shapeOf t) (Period (shapeOf t)) (period-steady (shapeOf t)) (rangesOf t) (rangesOf t′) (narrows-filled w) (a .ends) (b .ends) (x .ends) (y .ends)
 
   pub filled-inward : (v w : Verdict) → Judges t v → Judges t′ w → Inward v w
   filled-inward (outside k) w j j′ = verdict-unique t′ w (outside k) j′ (bad-filled k j)
@@ -190,7 +183,7 @@ module _ (t t′ : Table) (f : Filled t t′) where
       turn : Live (shapeOf t′) → ⊥
       turn live = omega (arith, live u (j′ .1 .loop) (j′ .1 .is-loop), j′ .1 .no-turn)
   filled-inward (found a) flat j j′ =
-      let p = j .2 .low .attained .given in
+      let p = j .2 .ends .low .attained .given in
       absurd (subst (λ (S : Shape). NoLoop S) (sym shape-filled) (j′ .2) (p .at) (p .loop) (p .is-loop))
   filled-inward (found a) wide j j′ = absurd (never-wide-at t′ (j′ .0) (j′ .2 .0) (j′ .2 .1) (j′ .2 .2))
   filled-inward (found a) (found b) j j′ = inward a b (j .0) (j .2) (subst (λ (S : Shape). Answers S (rangesOf t′) (t′ .n) b) (sym shape-filled) (j′ .2))

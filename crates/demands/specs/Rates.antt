@@ -16,9 +16,9 @@ use Rattle.model.specs.Loop.{Live}
 use Rattle.model.specs.Knot.{Knot}
 use Rattle.model.specs.Ratio.{Lowest}
 use Rattle.model.specs.Period.{Period}
-use Rattle.model.specs.Ends.{LowEnd, HighEnd}
+use Rattle.model.specs.Ends.{LowEnd, HighEnd, Range}
 use Rattle.model.specs.Answer.{Answer, Answers}
-use Rattle.model.specs.Rate.{SomeLoopTo, NoLoopTo, Rate, RateRange, Rates}
+use Rattle.model.specs.Rate.{SomeLoopTo, NoLoopTo, Rate, Rates}
 use Rattle.theory.specs.Loop.{loop-start}
 use Rattle.theory.specs.Knot.{knot-not-live}
 use Rattle.theory.specs.Period.{period-exists}
@@ -42,10 +42,10 @@ module _ (t : Table) (w : Within t) (v : ℕ) (b : v < t .n) (r : Rated) (is : R
   pub unreached-refused : Live (shapeOf t) → NoLoopTo (shapeOf t) v → r ≡ refusedRate 6 0
   unreached-refused live none = by-verdict unreached (w, b, live, none)
 
-  pub reached-answered : Live (shapeOf t) → SomeLoopTo (shapeOf t) v → (a : RateRange) × Rates (shapeOf t) (rangesOf t) v a × (r ≡ answeredRate a)
+  pub reached-answered : Live (shapeOf t) → SomeLoopTo (shapeOf t) v → (a : Range) × Rates (shapeOf t) (rangesOf t) v a × (r ≡ answeredRate a)
   reached-answered live some = at (rate-verdict-exists t v .0) (rate-verdict-exists t v .1)
     where
-      at : (x : RateVerdict) → JudgesRate t v x → (a : RateRange) × Rates (shapeOf t) (rangesOf t) v a × (r ≡ answeredRate a)
+      at : (x : RateVerdict) → JudgesRate t v x → (a : Range) × Rates (shapeOf t) (rangesOf t) v a × (r ≡ answeredRate a)
       at (bad-field k) j = absurd (within-not-bad t k w j)
       at no-name j = absurd (omega (arith, j .1))
       at (knot-at u) j = absurd (knot-not-live (shapeOf t) u (j .2) live)
@@ -84,10 +84,9 @@ module _ (t t′ : Table) (f : Filled t t′) (v : ℕ) where
   named : v < t .n → v < t′ .n
   named b = omega (arith, f .n-same)
 
-  inward : (a b : RateRange) → Within t → Rates (shapeOf t) (rangesOf t) v a → Rates (shapeOf t) (rangesOf t′) v b → EndsInward a b
+  inward : (a b : Range) → Within t → Rates (shapeOf t) (rangesOf t) v a → Rates (shapeOf t) (rangesOf t′) v b → EndsInward a b
   inward a b w x y =
-      ends-inward (shapeOf t) (λ D. Rate (shapeOf t) D v) (rate-steady (shapeOf t) (t .n) (within-fits t w) v) (rangesOf t) (rangesOf t′) (narrows-filled t t′ f w) a b
-      (x .low) (x .high) (x .meet) (y .low) (y .high) (y .meet)
+      ends-inward (shapeOf t) (λ D. Rate (shapeOf t) D v) (rate-steady (shapeOf t) (t .n) (within-fits t w) v) (rangesOf t) (rangesOf t′) (narrows-filled t t′ f w) a b x y
 
   pub rate-filled-inward : (x y : RateVerdict) → JudgesRate t v x → JudgesRate t′ v y → InwardRate x y
   rate-filled-inward (bad-field k) y j j′ = rate-verdict-unique t′ v y (bad-field k) j′ (bad-filled t t′ f k j)
@@ -135,7 +134,7 @@ module _ (t : Table) (w : Within t) (live : Live (shapeOf t)) where
         high-at-greatest S (rangesOf t) (λ D. Rate (shapeOf t) D v) (rate-steady S (t .n) fits v) (proper t) P Q p q x y l
 
   -- NEITHER END FALLS ALONG A RULE
-  pub rates-rise : (r : ℕ) → r < t .m → (a b : RateRange) → Rates (shapeOf t) (rangesOf t) (shapeOf t .source r) a → Rates (shapeOf t) (rangesOf t) (shapeOf t .target r) b
+  pub rates-rise : (r : ℕ) → r < t .m → (a b : Range) → Rates (shapeOf t) (rangesOf t) (shapeOf t .source r) a → Rates (shapeOf t) (rangesOf t) (shapeOf t .target r) b
       → (a .lowP * b .lowQ ≤ b .lowP * a .lowQ) × (a .highP * b .highQ ≤ b .highP * a .highQ)
   rates-rise r l a b x y =
       let on = rule-reaches S r l in
@@ -148,24 +147,24 @@ module _ (t : Table) (w : Within t) (live : Live (shapeOf t)) where
   module _ (a : Answer) (x : Answers (shapeOf t) (rangesOf t) (t .n) a) where
     one : (D : ℕ → ℕ) → ((r : ℕ) → r < t .m → D r ≤ maxDelay) → (P : ℕ) × (Q : ℕ) × Period (shapeOf t) D P Q × Lowest P Q
     one D most =
-        let p = x .low .attained .given in
+        let p = x .ends .low .attained .given in
         period-exists S (t .n) fits maxOffset maxDelay (within-offsets t w) D most live (record { at = p .at; loop = p .loop; is-loop = p .is-loop })
 
-    low-period : Period (shapeOf t) (rangesOf t .least) (a .lowP) (a .lowQ)
-    low-period = let (p, q, y, l) = one (rangesOf t .least) least in low-at-least S (rangesOf t) (Period S) (period-steady S) (proper t) _ _ p q (x .low) y l
+    low-period : Period (shapeOf t) (rangesOf t .least) (a .ends .lowP) (a .ends .lowQ)
+    low-period = let (p, q, y, l) = one (rangesOf t .least) least in low-at-least S (rangesOf t) (Period S) (period-steady S) (proper t) _ _ p q (x .ends .low) y l
 
-    high-period : Period (shapeOf t) (rangesOf t .greatest) (a .highP) (a .highQ)
-    high-period = let (p, q, y, l) = one (rangesOf t .greatest) (within-delays t w) in high-at-greatest S (rangesOf t) (Period S) (period-steady S) (proper t) _ _ p q (x .high) y l
+    high-period : Period (shapeOf t) (rangesOf t .greatest) (a .ends .highP) (a .ends .highQ)
+    high-period = let (p, q, y, l) = one (rangesOf t .greatest) (within-delays t w) in high-at-greatest S (rangesOf t) (Period S) (period-steady S) (proper t) _ _ p q (x .ends .high) y l
 
-    pub rates-within : (v : ℕ) → v < t .n → (b : RateRange) → Rates (shapeOf t) (rangesOf t) v b → (b .lowP * a .lowQ ≤ a .lowP * b .lowQ) × (b .highP * a .highQ ≤ a .highP * b .highQ)
+    pub rates-within : (v : ℕ) → v < t .n → (b : Range) → Rates (shapeOf t) (rangesOf t) v b → (b .lowP * a .ends .lowQ ≤ a .ends .lowP * b .lowQ) × (b .highP * a .ends .highQ ≤ a .ends .highP * b .highQ)
     rates-within v l b y = (rate-within S _ _ _ _ _ _ (low-at _ _ _ l (y .low)) low-period, rate-within S _ _ _ _ _ _ (high-at _ _ _ l (y .high)) high-period)
 
-    pub low-attained : (v : ℕ) × (v < t .n) × LowEnd (shapeOf t) (rangesOf t) (λ D. Rate (shapeOf t) D v) (a .lowP) (a .lowQ)
+    pub low-attained : (v : ℕ) × (v < t .n) × LowEnd (shapeOf t) (rangesOf t) (λ D. Rate (shapeOf t) D v) (a .ends .lowP) (a .ends .lowQ)
     low-attained =
         let p = low-period in
-        (p .at, loop-start S (t .n) fits (p .at) (p .loop) (p .is-loop), low-is S (rangesOf t) (λ D. Rate (shapeOf t) D (p .at)) (rate-steady S (t .n) fits (p .at)) (proper t) _ _ (period-rate S _ _ _ p) (x .low .attained .lowest))
+        (p .at, loop-start S (t .n) fits (p .at) (p .loop) (p .is-loop), low-is S (rangesOf t) (λ D. Rate (shapeOf t) D (p .at)) (rate-steady S (t .n) fits (p .at)) (proper t) _ _ (period-rate S _ _ _ p) (x .ends .low .attained .lowest))
 
-    pub high-attained : (v : ℕ) × (v < t .n) × HighEnd (shapeOf t) (rangesOf t) (λ D. Rate (shapeOf t) D v) (a .highP) (a .highQ)
+    pub high-attained : (v : ℕ) × (v < t .n) × HighEnd (shapeOf t) (rangesOf t) (λ D. Rate (shapeOf t) D v) (a .ends .highP) (a .ends .highQ)
     high-attained =
         let p = high-period in
-        (p .at, loop-start S (t .n) fits (p .at) (p .loop) (p .is-loop), high-is S (rangesOf t) (λ D. Rate (shapeOf t) D (p .at)) (rate-steady S (t .n) fits (p .at)) (proper t) _ _ (period-rate S _ _ _ p) (x .high .attained .lowest))
+        (p .at, loop-start S (t .n) fits (p .at) (p .loop) (p .is-loop), high-is S (rangesOf t) (λ D. Rate (shapeOf t) D (p .at)) (rate-steady S (t .n) fits (p .at)) (proper t) _ _ (period-rate S _ _ _ p) (x .ends .high .attained .lowest))

@@ -6,8 +6,8 @@
 --   found-answered     every loop turns and there is one: answered
 --   refused-only       and so refused in no other case
 --   given-exact-answer with all delays given the answer is exact, and both ends are the period
-use mathlib.Core.Path.{_≡_, refl, sym, ap, _∙_}
-use mathlib.Core.Bool.{Bool, true, false}
+use mathlib.Core.Path.{_≡_, refl, ap, _∙_}
+use mathlib.Core.Bool.{true}
 use mathlib.Core.Logic.{_⊎_, inl, inr, ⊎-elim}
 use mathlib.Core.List.{List}
 use Prim.Native.Nat.{ℕ, _≤_, _<_}
@@ -70,9 +70,9 @@ module _ (t : Table) (w : Within t) (x l h : List ℕ) (r : Room t x l h) (o : O
       at (found a) j e = absurd (omega (arith, ap (λ (z : Outcome). z .result .refusal) e))
 
 -- with all delays given
-pub given-exact-answer : (t : Table) (a : Answer) → Given (shapeOf t) (rangesOf t) → Answers (shapeOf t) (rangesOf t) (t .n) a → (a .lowP ≡ a .highP) × (a .lowQ ≡ a .highQ) × (a .exact ≡ true)
+pub given-exact-answer : (t : Table) (a : Answer) → Given (shapeOf t) (rangesOf t) → Answers (shapeOf t) (rangesOf t) (t .n) a → (a .ends .lowP ≡ a .ends .highP) × (a .ends .lowQ ≡ a .ends .highQ) × (a .ends .exact ≡ true)
 given-exact-answer t a g x =
     let S = shapeOf t in
     let K = rangesOf t in
-    let same = high-unique S K (Period S) (period-steady S) (a .lowP) (a .lowQ) (a .highP) (a .highQ) (given-exact S K (Period S) (period-steady S) g (a .lowP) (a .lowQ) (x .low)) (x .high) in
-    (same .0, same .1, ⊎-elim (λ m. m .2) (λ m. absurd (m .0 (same .0, same .1))) (x .meet))
+    let same = high-unique S K (Period S) (period-steady S) (a .ends .lowP) (a .ends .lowQ) (a .ends .highP) (a .ends .highQ) (given-exact S K (Period S) (period-steady S) g (a .ends .lowP) (a .ends .lowQ) (x .ends .low)) (x .ends .high) in
+    (same .0, same .1, ⊎-elim (λ m. m .2) (λ m. absurd (m .0 (same .0, same .1))) (x .ends .meet))

@@ -6,13 +6,13 @@
 --   Calm S v d r, Settled S v d == rule r shows no shorter walk from its source; no rule does
 --   near-least, near-short      then no walk is shorter than d says, and a closed one has at most n rules
 --   near-none, near-put         at first no walk is known; a distance put down
-use mathlib.Core.Path.{_≡_, refl, sym, ap, _∙_, subst}
+use mathlib.Core.Path.{_≡_, refl, sym, ap, _∙_}
 use mathlib.Core.Logic.{by-cases, ite, if-pos, if-neg, _≢_}
 use mathlib.Core.List.{List, [], _∷_}
 use Prim.Native.Nat.{ℕ, zero, suc, _+_, _-_, _≤_, _<_}
 use native.Mathlib.Omega.{arith}
 use native.Mathlib.Decide.{ℕ-discrete}
-use lib.ListN.{length, getD, set, replicate, getD-replicate, length-set}
+use lib.ListN.{length, getD, set, replicate, getD-replicate}
 use lib.Seq.{getD-set-same, getD-set-other}
 use Rattle.model.specs.Shape.{Shape, Fits}
 use Rattle.model.specs.Walk.{Walk}

@@ -27,8 +27,7 @@ use Rattle.model.specs.Ends.{Exact}
 use Rattle.model.specs.Answer.{Answer, Answers}
 use Rattle.theory.specs.Schedule.{TightRule}
 use Rattle.theory.specs.Filling.{Proper}
-use Rattle.theory.specs.Ends.{period-steady, low-is, high-is}
-use Rattle.theory.specs.First.{KindLoop, FirstLoop}
+use Rattle.theory.specs.Ends.{period-steady, range-is}
 use Rattle.theory.specs.Knot.{first-knot, none-live}
 use Rattle.theory.specs.Climb.{Climbed, climbed-none, climbed-period, climbed-reported, climbed-schedule}
 use Rattle.theory.specs.Same.{period-same, reported-same, schedule-same, answers-same}
@@ -55,7 +54,7 @@ refusedLap f p = record { refusal = f; place = p; exact = false; low = endOf 0 0
 
 abbrev pub answeredLap : Answer → Lap
 answeredLap a =
-    record { refusal = 0; place = 0; exact = a .exact; low = endOf (a .lowP) (a .lowQ) (a .lowLoop); high = endOf (a .highP) (a .highQ) (a .highLoop); schedule = padded (a .schedule) }
+    record { refusal = 0; place = 0; exact = a .ends .exact; low = endOf (a .ends .lowP) (a .ends .lowQ) (a .lowLoop); high = endOf (a .ends .highP) (a .ends .highQ) (a .highLoop); schedule = padded (a .schedule) }
 
 abbrev pub lapOf : Verdict → Lap
 lapOf (outside k) = refusedLap 3 k
@@ -141,16 +140,14 @@ sided-same S D E same n p q len rules x s =
 -- the answer that two sides make
 abbrev pub answerOf : ℕ → ℕ → ℕ → ℕ → List ℕ → ℕ → ℕ → ℕ → List ℕ → List ℕ → Bool → Answer
 answerOf n p q l ls P Q h hs x e =
-    record { lowP = p; lowQ = q; highP = P; highQ = Q; exact = e; lowLoop = take l ls; highLoop = take h hs; schedule = take n x }
+    record { ends = record { lowP = p; lowQ = q; highP = P; highQ = Q; exact = e }; lowLoop = take l ls; highLoop = take h hs; schedule = take n x }
 
 -- TWO SIDES MAKE THE ANSWER
 pub sides-answer : (S : Shape) (K : Ranges) → Proper S K → (n p q l P Q h : ℕ) (ls xs hs x : List ℕ) (e : Bool) → 0 < l → 0 < h
     → Sided S K.least n p q l ls xs → Sided S K.greatest n P Q h hs x → Exact p q P Q e → Answers S K n (answerOf n p q l ls P Q h hs x e)
 sides-answer S K proper n p q l P Q h ls xs hs x e lb hb low high m =
     record {
-      low = low-is S K (Period S) (period-steady S) proper p q (low .period lb) (low .lowest lb);
-      high = high-is S K (Period S) (period-steady S) proper P Q (high .period hb) (high .lowest hb);
-      meet = m;
+      ends = range-is S K (Period S) (period-steady S) proper p q P Q e (low .period lb) (low .lowest lb) (high .period hb) (high .lowest hb) m;
       low-at = low .at;
       low-loop = low .reported lb;
       high-at = high .at;

@@ -7,10 +7,10 @@
 -- Theorems: proper (every rule may have some delay), never-wide-at (refusal 11 never comes), verdict-exists, verdict-unique.
 use mathlib.Core.Path.{_≡_, refl, ap}
 use mathlib.Core.Logic.{_⊎_, ⊎-elim}
-use Prim.Native.Nat.{ℕ, _+_, _*_, _≤_, _<_, _^_}
+use Prim.Native.Nat.{ℕ, _≤_, _<_, _^_}
 use native.Mathlib.Omega.{arith}
 use lib.ListN.{getD}
-use Rattle.model.specs.Shape.{Shape, Fits}
+use Rattle.model.specs.Shape.{Shape}
 use Rattle.model.specs.Loop.{SomeLoop, NoLoop, Live}
 use Rattle.model.specs.Knot.{Knot}
 use Rattle.model.specs.Filling.{Ranges, Filling}
@@ -34,7 +34,7 @@ pub data Verdict : Type 0 where
   found : Answer → Verdict
 
 abbrev pub WideAt : Shape → Ranges → Answer → Type 0
-WideAt S K a = WideSum (2 ^ 63) S K.least (a .lowP) (a .lowQ) ⊎ WideSum (2 ^ 63) S K.greatest (a .highP) (a .highQ)
+WideAt S K a = WideSum (2 ^ 63) S K.least (a .ends .lowP) (a .ends .lowQ) ⊎ WideSum (2 ^ 63) S K.greatest (a .ends .highP) (a .ends .highQ)
 
 abbrev pub Judges : Table → Verdict → Type 0
 Judges t (outside k) = FirstBad t k
@@ -51,10 +51,10 @@ proper t = ranges-proper (shapeOf t) maxDelay (λ r. delayOf (getD (used t) r un
 pub never-wide-at : (t : Table) → Within t → (a : Answer) → Answers (shapeOf t) (rangesOf t) (t .n) a → ¬ (WideAt (shapeOf t) (rangesOf t) a)
 never-wide-at t w a x =
     ⊎-elim
-    (never-wide (shapeOf t) (rangesOf t .least) (x .low .attained .D) (t .n) (a .lowP) (a .lowQ) (w .n-high) (within-fits t w) (within-offsets t w) least
-    (below (x .low .attained .D) (x .low .attained .fills)) (x .low .attained .given) (x .low .attained .lowest))
-    (never-wide (shapeOf t) (rangesOf t .greatest) (x .high .attained .D) (t .n) (a .highP) (a .highQ) (w .n-high) (within-fits t w) (within-offsets t w) (within-delays t w)
-    (below (x .high .attained .D) (x .high .attained .fills)) (x .high .attained .given) (x .high .attained .lowest))
+    (never-wide (shapeOf t) (rangesOf t .least) (x .ends .low .attained .D) (t .n) (a .ends .lowP) (a .ends .lowQ) (w .n-high) (within-fits t w) (within-offsets t w) least
+    (below (x .ends .low .attained .D) (x .ends .low .attained .fills)) (x .ends .low .attained .given) (x .ends .low .attained .lowest))
+    (never-wide (shapeOf t) (rangesOf t .greatest) (x .ends .high .attained .D) (t .n) (a .ends .highP) (a .ends .highQ) (w .n-high) (within-fits t w) (within-offsets t w) (within-delays t w)
+    (below (x .ends .high .attained .D) (x .ends .high .attained .fills)) (x .ends .high .attained .given) (x .ends .high .attained .lowest))
   where
     least : (r : ℕ) → r < t .m → rangesOf t .least r ≤ 1000000
     least r b = omega (arith, within-delays t w r b, proper t r b)
@@ -80,7 +80,7 @@ verdict-exists t = ⊎-elim inside (λ b. (outside (b .0), b .1)) (within-or-fir
 
 -- an answer speaks of a loop
 answers-loop : (S : Shape) (K : Ranges) (n : ℕ) (a : Answer) → Answers S K n a → ¬ (NoLoop S)
-answers-loop S K n a x none = none (x .low .attained .given .at) (x .low .attained .given .loop) (x .low .attained .given .is-loop)
+answers-loop S K n a x none = none (x .ends .low .attained .given .at) (x .ends .low .attained .given .loop) (x .ends .low .attained .given .is-loop)
 
 -- ONLY ONE
 pub verdict-unique : (t : Table) (v w : Verdict) → Judges t v → Judges t w → v ≡ w

@@ -1,6 +1,6 @@
 // A table handed in as columns of numbers or as the bytes of a rule file, and handed out as columns: what the calls for C are asked about.
 ghost use mathlib.Core.Path.{_≡_};
-ghost use Prim.Native.Nat.{ℕ, _≤_};
+ghost use Prim.Native.Nat.{_≤_};
 ghost use lib.ListN.{length};
 ghost use Rattle.table.specs.Limits.{maxM};
 ghost use Rattle.handed.specs.Columns.{columns, ruleFrom, stored, tableOf, shortOf, refusedTable, columnsOf, bytesOf, delayIn, knownIn, columnsFrom, refusedColumns, readInto, readAs};

@@ -9,20 +9,18 @@ use native.Mathlib.Omega.{arith}
 use lib.ListN.{length, getD}
 use Rattle.model.specs.Shape.{Shape}
 use Rattle.model.specs.Sums.{offsets}
-use Rattle.model.specs.Loop.{Loop, NoLoop, Live}
-use Rattle.model.specs.Walk.{Walk}
+use Rattle.model.specs.Loop.{Loop, NoLoop}
 use Rattle.model.specs.Ratio.{Lowest}
 use Rattle.model.specs.Period.{Attains, Period}
-use Rattle.model.specs.Filling.{Delay, unknown, known, Ranges, ranges}
-use Rattle.model.specs.Schedule.{Keeps, Schedule, LeastSchedule}
+use Rattle.model.specs.Filling.{Delay, unknown, known}
+use Rattle.model.specs.Schedule.{Schedule, LeastSchedule}
 use Rattle.model.specs.Reported.{NotAfter, Reported}
-use Rattle.model.specs.Knot.{Knot}
 use Rattle.model.specs.Times.{IsTime}
 use Rattle.model.specs.Ends.{Exact}
-use Rattle.model.specs.Answer.{Answer, Answers}
+use Rattle.model.specs.Answer.{Answers}
 use Rattle.theory.specs.Filling.{ranges-proper}
 use Rattle.theory.specs.Period.{certified}
-use Rattle.theory.specs.Ends.{period-steady, low-is, high-is}
+use Rattle.theory.specs.Ends.{period-steady, range-is}
 use Rattle.laps.specs.Lists.{Rule, rule, shapeOf, rangesOf, Says, answered, knotted, flat, Lap, Right, KeepsEach, kept, TimeEach, time, timed, untimed, lowest-one, lowest-7-2}
 
 -- ------------------------------------------------------------------------------------------------------------------------------------ the laps
@@ -52,10 +50,10 @@ abbrev P8 : List Rule
 P8 = rule 0 1 1 (known 5) ∷ []
 
 abbrev exactly : ℕ → ℕ → List ℕ → List ℕ → Says
-exactly P Q loop X = answered (record { lowP = P; lowQ = Q; highP = P; highQ = Q; exact = true; lowLoop = loop; highLoop = loop; schedule = X })
+exactly P Q loop X = answered (record { ends = record { lowP = P; lowQ = Q; highP = P; highQ = Q; exact = true }; lowLoop = loop; highLoop = loop; schedule = X })
 
 abbrev from-to : ℕ → ℕ → ℕ → ℕ → List ℕ → List ℕ → Says
-from-to p q P Q loop X = answered (record { lowP = p; lowQ = q; highP = P; highQ = Q; exact = false; lowLoop = loop; highLoop = loop; schedule = X })
+from-to p q P Q loop X = answered (record { ends = record { lowP = p; lowQ = q; highP = P; highQ = Q; exact = false }; lowLoop = loop; highLoop = loop; schedule = X })
 
 abbrev pub lap-1 : Lap
 lap-1 = record { n = 2; rules = P1; says = exactly 7 1 (0 ∷ 1 ∷ []) (0 ∷ 3 ∷ []); occurrences = 3; times = 0 ∷ 3 ∷ 7 ∷ 10 ∷ 14 ∷ 17 ∷ [] }
@@ -130,13 +128,11 @@ module _ (rs : List Rule) (n : ℕ) where
       Period S (K .least) p q → Lowest p q → Period S (K .greatest) P Q → Lowest P Q
       → Exact p q P Q e
       → Reported S (K .least) p q 0 loop → Reported S (K .greatest) P Q 0 loop → LeastSchedule S (K .greatest) n P Q X
-      → Answers S K n (record { lowP = p; lowQ = q; highP = P; highQ = Q; exact = e; lowLoop = loop; highLoop = loop; schedule = X })
+      → Answers S K n (record { ends = record { lowP = p; lowQ = q; highP = P; highQ = Q; exact = e }; lowLoop = loop; highLoop = loop; schedule = X })
   answers p q P Q loop X e lp ll hp hl m lr hr ls =
       let proper = ranges-proper (shapeOf rs) 1000000 (λ r. getD rs r (rule 0 0 0 unknown) .delay) in
       record {
-        low = low-is (shapeOf rs) (rangesOf rs) (Period (shapeOf rs)) (period-steady (shapeOf rs)) proper p q lp ll;
-        high = high-is (shapeOf rs) (rangesOf rs) (Period (shapeOf rs)) (period-steady (shapeOf rs)) proper P Q hp hl;
-        meet = m;
+        ends = range-is (shapeOf rs) (rangesOf rs) (Period (shapeOf rs)) (period-steady (shapeOf rs)) proper p q P Q e lp ll hp hl m;
         low-at = 0;
         low-loop = lr;
         high-at = 0;

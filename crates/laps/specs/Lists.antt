@@ -5,7 +5,7 @@
 --   Lap, Right           == a lap worked by hand, and what it claims
 --   kept, times             a finite check for schedules and for times
 --   ring-loops, ..          the loops of the shapes in the table
-use mathlib.Core.Path.{_≡_, refl, sym, ap, _∙_}
+use mathlib.Core.Path.{_≡_, refl, sym, ap}
 use mathlib.Core.Logic.{_⊎_, inl, inr, ⊎-elim, by-cases}
 use mathlib.Core.List.{List, [], _∷_}
 use Prim.Native.Nat.{ℕ, zero, suc, _+_, _*_, _-_, _≤_, _<_}
@@ -13,11 +13,9 @@ use native.Mathlib.Omega.{arith}
 use native.Mathlib.Decide.{ℕ-discrete}
 use lib.ListN.{length, getD, replicate}
 use Rattle.model.specs.Shape.{Shape}
-use Rattle.model.specs.Sums.{delays, offsets}
-use Rattle.model.specs.Loop.{Loop, NoLoop, Live}
-use Rattle.model.specs.Walk.{Walk}
-use Rattle.model.specs.Ratio.{Lowest, Divides}
-use Rattle.model.specs.Filling.{Delay, unknown, known, Ranges, ranges}
+use Rattle.model.specs.Loop.{NoLoop, Live}
+use Rattle.model.specs.Ratio.{Lowest}
+use Rattle.model.specs.Filling.{Delay, unknown, Ranges, ranges}
 use Rattle.model.specs.Schedule.{Keeps}
 use Rattle.model.specs.Knot.{Knot}
 use Rattle.model.specs.Times.{Acts, asked, IsTime, AreTimes, Timed}

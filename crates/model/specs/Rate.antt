@@ -6,9 +6,7 @@
 --   SomeLoopTo S v       == there is one
 --   NoLoopTo S v         == there is none
 --   Rate S D v P Q       == P/Q is the rate of v with the delays D, in some terms
---   RateRange            == the two ends of a rate, and whether they meet
 --   Rates S K v a        == a is the range of the rate of v
-use mathlib.Core.Bool.{Bool}
 use mathlib.Core.List.{List}
 use Prim.Native.Nat.{ℕ, _<_}
 use Rattle.model.specs.Shape.{Shape}
@@ -17,7 +15,7 @@ use Rattle.model.specs.Walk.{Walk}
 use Rattle.model.specs.Loop.{Loop}
 use Rattle.model.specs.Period.{Attains, NotAbove}
 use Rattle.model.specs.Filling.{Ranges}
-use Rattle.model.specs.Ends.{LowEnd, HighEnd, Exact}
+use Rattle.model.specs.Ends.{Range, RangeOf}
 
 pub record Reaches (S : Shape) (u v : ℕ) : Type 0 where
   pub way : List ℕ
@@ -46,16 +44,6 @@ pub record Rate (S : Shape) (D : ℕ → ℕ) (v P Q : ℕ) : Type 0 where
   pub attained : Attains S D P Q loop
   pub highest : (u : ℕ) (rs : List ℕ) → LoopTo S v u rs → NotAbove S D P Q rs
 
--- the two ends of a rate, and whether they meet
-pub record RateRange : Type 0 where
-  pub lowP : ℕ
-  pub lowQ : ℕ
-  pub highP : ℕ
-  pub highQ : ℕ
-  pub exact : Bool
-
 -- a is the range of the rate of v, over all fillings
-pub record Rates (S : Shape) (K : Ranges) (v : ℕ) (a : RateRange) : Type 0 where
-  pub low : LowEnd S K (λ D. Rate S D v) (a .lowP) (a .lowQ)
-  pub high : HighEnd S K (λ D. Rate S D v) (a .highP) (a .highQ)
-  pub meet : Exact (a .lowP) (a .lowQ) (a .highP) (a .highQ) (a .exact)
+abbrev pub Rates : Shape → Ranges → ℕ → Range → Type 0
+Rates S K v a = RangeOf S K (λ D. Rate S D v) a

@@ -7,10 +7,10 @@
 --   AnalysisOf t x l h o     == THE PROMISE of `analyse`
 --
 -- Theorem: analysis-unique (one outcome). The promise of `rate` is that of crate `rates`, `RateOf`.
-use mathlib.Core.Path.{_≡_, refl, sym, ap, _∙_}
+use mathlib.Core.Path.{_≡_, sym, ap, _∙_}
 use mathlib.Core.Bool.{Bool, true, false}
-use mathlib.Core.List.{List, [], _∷_, _++_}
-use Prim.Native.Nat.{ℕ, zero, suc, _+_, _-_, _≤_, _<_}
+use mathlib.Core.List.{List, _++_}
+use Prim.Native.Nat.{ℕ, _+_, _-_}
 use lib.Dec.{ltb}
 use lib.ListN.{length, drop}
 use Rattle.model.specs.Answer.{Answer}
@@ -42,7 +42,7 @@ refusedAnalysis f p = record { refusal = f; place = p; exact = false; low = endO
 
 abbrev pub answeredAnalysis : Answer → Analysis
 answeredAnalysis a =
-    record { refusal = 0; place = 0; exact = a .exact; low = endOf (a .lowP) (a .lowQ) (length (a .lowLoop)); high = endOf (a .highP) (a .highQ) (length (a .highLoop)) }
+    record { refusal = 0; place = 0; exact = a .ends .exact; low = endOf (a .ends .lowP) (a .ends .lowQ) (length (a .lowLoop)); high = endOf (a .ends .highP) (a .ends .highQ) (length (a .highLoop)) }
 
 -- values in the lowest places, the rest as it was
 abbrev pub into : List ℕ → List ℕ → List ℕ

@@ -2,18 +2,17 @@
 --
 --   put-next                     one value more is put into a buffer
 --   analysed-...                 what each way out of the call hands back is what the promise says
-use mathlib.Core.Path.{_≡_, refl, sym, ap, _∙_, subst}
-use mathlib.Core.Bool.{Bool, true, false, true≢false}
+use mathlib.Core.Path.{_≡_, refl, sym, ap, _∙_}
+use mathlib.Core.Bool.{true, false, true≢false}
 use mathlib.Core.Logic.{_≢_}
 use mathlib.Core.List.{List, [], _∷_, _++_}
 use Prim.Native.Nat.{ℕ, zero, suc, _+_, _-_, _≤_, _<_}
 use native.Mathlib.Omega.{arith}
 use native.Mathlib.Numerals.{add-one}
-use lib.Dec.{ltb}
 use lib.ListN.{length, getD, set, take, drop, replicate}
 use lib.Seq.{take-append-seam}
 use borrow.Author.Tests.{lt-ltb, le-ltb}
-use Rattle.model.specs.Answer.{Answer, Answers}
+use Rattle.model.specs.Answer.{Answer}
 use Rattle.theory.specs.Loop.{loop-short}
 use Rattle.table.specs.declared.Table.{Table}
 use Rattle.table.specs.Fields.{Within}
@@ -22,7 +21,7 @@ use Rattle.engine.specs.declared.Lap.{Lap}
 use Rattle.engine.specs.Verdict.{Verdict, outside, knotted, flat, wide, found, Judges}
 use Rattle.engine.specs.Lap.{LapOf, lapOf}
 use Rattle.period.specs.declared.Analysis.{Analysis}
-use Rattle.period.specs.Promise.{pick, Outcome, outcome, endOf, refusedAnalysis, answeredAnalysis, into, judgedOutcome, roomFor, isOutside, outcomeOf, AnalysisOf}
+use Rattle.period.specs.Promise.{Outcome, outcome, refusedAnalysis, judgedOutcome, roomFor, isOutside, outcomeOf, AnalysisOf}
 
 put-one : (i : ℕ) (x out : List ℕ) → i < length x → i < length out → set (take i x ++ drop i out) i (getD x i 0) ≡ take (suc i) x ++ drop (suc i) out
 put-one zero [] out b c = absurd (omega arith)

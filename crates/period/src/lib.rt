@@ -1,7 +1,7 @@
 // The period library: the analysis of a table into lent buffers, and the rate of one transition.
 ghost use mathlib.Core.Path.{_≡_};
 ghost use mathlib.Core.List.{_++_};
-ghost use Prim.Native.Nat.{ℕ, _≤_};
+ghost use Prim.Native.Nat.{_≤_};
 ghost use lib.ListN.{length, take, drop};
 ghost use Rattle.period.specs.Promise.{outcome, refusedAnalysis, AnalysisOf};
 // The two ends of a transition's rate: the call of `rates` as it is.

@@ -24,14 +24,14 @@ use Rattle.model.specs.Ratio.{Lowest}
 use Rattle.model.specs.Filling.{Ranges, Filling}
 use Rattle.model.specs.Wide.{WideSum}
 use Rattle.model.specs.Period.{Period}
-use Rattle.model.specs.Ends.{Exact}
-use Rattle.model.specs.Rate.{SomeLoopTo, NoLoopTo, Rate, RateRange, Rates}
+use Rattle.model.specs.Ends.{Exact, Range}
+use Rattle.model.specs.Rate.{SomeLoopTo, NoLoopTo, Rate, Rates}
 use Rattle.theory.specs.Knot.{knot-unique, knot-not-live, knot-or-live, loop-or-none, first-knot}
 use Rattle.theory.specs.Schedule.{TightRule}
 use Rattle.theory.specs.Climb.{climbed-period, climbed-none}
 use Rattle.theory.specs.Same.{period-same}
 use Rattle.theory.specs.Wide.{period-limits, small-not-wide}
-use Rattle.theory.specs.Ends.{low-is, high-is}
+use Rattle.theory.specs.Ends.{range-is}
 use Rattle.theory.specs.Rate.{steered, steering, rate-steered, rate-plain, none-plain, some-plain, fits-steered, rate-steady, rates-unique, rates-exist}
 use Rattle.theory.specs.Gather.{Gathers, none-gathered, rate-gathered}
 use Rattle.table.specs.declared.Table.{Table}
@@ -52,9 +52,9 @@ pub data RateVerdict : Type 0 where
   knot-at : ℕ → RateVerdict
   unreached : RateVerdict
   too-wide : RateVerdict
-  rated : RateRange → RateVerdict
+  rated : Range → RateVerdict
 
-abbrev pub WideRate : Shape → Ranges → RateRange → Type 0
+abbrev pub WideRate : Shape → Ranges → Range → Type 0
 WideRate S K a = WideSum (2 ^ 63) S K.least (a .lowP) (a .lowQ) ⊎ WideSum (2 ^ 63) S K.greatest (a .highP) (a .highQ)
 
 -- each case in the paper's order: what is judged later asks that nothing before it was met
@@ -63,13 +63,13 @@ JudgesRate t v (bad-field k) = FirstBad t k
 JudgesRate t v no-name = Within t × (t .n ≤ v)
 JudgesRate t v (knot-at u) = Within t × (v < t .n) × Knot (shapeOf t) u
 JudgesRate t v unreached = Within t × (v < t .n) × Live (shapeOf t) × NoLoopTo (shapeOf t) v
-JudgesRate t v too-wide = Within t × (v < t .n) × Live (shapeOf t) × ((a : RateRange) × Rates (shapeOf t) (rangesOf t) v a × WideRate (shapeOf t) (rangesOf t) a)
+JudgesRate t v too-wide = Within t × (v < t .n) × Live (shapeOf t) × ((a : Range) × Rates (shapeOf t) (rangesOf t) v a × WideRate (shapeOf t) (rangesOf t) a)
 JudgesRate t v (rated a) = Within t × (v < t .n) × Live (shapeOf t) × Rates (shapeOf t) (rangesOf t) v a × (¬ (WideRate (shapeOf t) (rangesOf t) a))
 
 abbrev pub refusedRate : ℕ → ℕ → Rated
 refusedRate f p = record { refusal = f; place = p; exact = false; low = record { p = 0; q = 0 }; high = record { p = 0; q = 0 } }
 
-abbrev pub answeredRate : RateRange → Rated
+abbrev pub answeredRate : Range → Rated
 answeredRate a = record { refusal = 0; place = 0; exact = a .exact; low = record { p = a .lowP; q = a .lowQ }; high = record { p = a .highP; q = a .highQ } }
 
 abbrev pub ratedOf : ℕ → RateVerdict → Rated
@@ -88,7 +88,7 @@ pub record RateOf (t : Table) (v : ℕ) (r : Rated) : Type 0 where
 -- ------------------------------------------------------------------------------------------------------------------------- one verdict, and there
 
 -- NEVER WIDE: the rate is the period of the steered rules, which have the same offsets and delays
-pub rate-never-wide : (t : Table) → Within t → (v : ℕ) → v < t .n → (a : RateRange) → Rates (shapeOf t) (rangesOf t) v a → ¬ (WideRate (shapeOf t) (rangesOf t) a)
+pub rate-never-wide : (t : Table) → Within t → (v : ℕ) → v < t .n → (a : Range) → Rates (shapeOf t) (rangesOf t) v a → ¬ (WideRate (shapeOf t) (rangesOf t) a)
 rate-never-wide t w v b a x =
     ⊎-elim
     (small-not-wide (shapeOf t) (rangesOf t .least) (t .n) (a .lowP) (a .lowQ) (w .n-high) (within-fits t w) (within-offsets t w) least
@@ -127,7 +127,7 @@ rate-verdict-exists t v = ⊎-elim inside (λ b. (bad-field (b .0), b .1)) (with
     inside w = by-cases (decLt v (t .n)) (named w) (λ b. (no-name, (w, omega arith)))
 
 -- a range speaks of a loop
-rates-loop : (S : Shape) (K : Ranges) (v : ℕ) (a : RateRange) → Rates S K v a → ¬ (NoLoopTo S v)
+rates-loop : (S : Shape) (K : Ranges) (v : ℕ) (a : Range) → Rates S K v a → ¬ (NoLoopTo S v)
 rates-loop S K v a x none = let r = x .low .attained .given in none (r .at) (r .loop) (r .is-loop-to)
 
 -- ONLY ONE
@@ -196,13 +196,13 @@ InLowest S D p q = Period S D p q × Lowest p q
 abbrev pub RatedIn : Shape → Ranges → Rated → Type 0
 RatedIn S K r =
     (NoLoop S × (r ≡ refusedRate 6 0))
-    ⊎ ((a : RateRange) × InLowest S K.least (a .lowP) (a .lowQ) × InLowest S K.greatest (a .highP) (a .highQ) × Exact (a .lowP) (a .lowQ) (a .highP) (a .highQ) (a .exact) × (r ≡ answeredRate a))
+    ⊎ ((a : Range) × InLowest S K.least (a .lowP) (a .lowQ) × InLowest S K.greatest (a .highP) (a .highQ) × Exact (a .lowP) (a .lowQ) (a .highP) (a .highQ) (a .exact) × (r ≡ answeredRate a))
 
 -- the same for the loops that reach v
 abbrev pub RatedTo : Shape → Ranges → ℕ → Rated → Type 0
 RatedTo S K v r =
     (NoLoopTo S v × (r ≡ refusedRate 6 0))
-    ⊎ ((a : RateRange) × (Rate S K.least v (a .lowP) (a .lowQ) × Lowest (a .lowP) (a .lowQ)) × (Rate S K.greatest v (a .highP) (a .highQ) × Lowest (a .highP) (a .highQ)) × Exact (a .lowP) (a .lowQ) (a .highP) (a .highQ) (a .exact) × (r ≡ answeredRate a))
+    ⊎ ((a : Range) × (Rate S K.least v (a .lowP) (a .lowQ) × Lowest (a .lowP) (a .lowQ)) × (Rate S K.greatest v (a .highP) (a .highQ) × Lowest (a .highP) (a .highQ)) × Exact (a .lowP) (a .lowQ) (a .highP) (a .highQ) (a .exact) × (r ≡ answeredRate a))
 
 module _ (S : Shape) (D : ℕ → ℕ) (P Q : ℕ) (X : List ℕ) (live : Live S) (c : Reached S D P Q X) where
   pub paced : SomeLoop S → Paced S D true P Q
@@ -263,10 +263,9 @@ module _ (t : Table) (w : Within t) (v : ℕ) (b : v < t .n) (s g o l h : List �
         record { verdict = unreached; judged = (w, b, z .0, z .1); result = x .1 }
     rate-ends r (inr (a, low, high, meet, e)) =
         let z = subst (λ (S : Shape). Live S × Rate S (rangesIn l h .least) v (a .lowP) (a .lowQ) × Rate S (rangesIn l h .greatest) v (a .highP) (a .highQ)) (laid-shape t s g o l h k c) (columns-live, low .0, high .0) in
+        let fits = within-fits t w in
         let rates : Rates (shapeOf t) (rangesOf t) v a =
-        record {
-          low = low-is (shapeOf t) (rangesOf t) (λ D. Rate (shapeOf t) D v) (rate-steady (shapeOf t) (t .n) (within-fits t w) v) (proper t) _ _ (rate-same (shapeOf t) (t .n) (within-fits t w) _ _ (laid-least t s g o l h k c) v _ _ (z .1)) (low .1);
-          high = high-is (shapeOf t) (rangesOf t) (λ D. Rate (shapeOf t) D v) (rate-steady (shapeOf t) (t .n) (within-fits t w) v) (proper t) _ _ (rate-same (shapeOf t) (t .n) (within-fits t w) _ _ (laid-greatest t s g o l h k c) v _ _ (z .2)) (high .1);
-          meet = meet;
-        } in
+        range-is (shapeOf t) (rangesOf t) (λ D. Rate (shapeOf t) D v) (rate-steady (shapeOf t) (t .n) fits v) (proper t) _ _ _ _ _
+        (rate-same (shapeOf t) (t .n) fits _ _ (laid-least t s g o l h k c) v _ _ (z .1)) (low .1)
+        (rate-same (shapeOf t) (t .n) fits _ _ (laid-greatest t s g o l h k c) v _ _ (z .2)) (high .1) meet in
         record { verdict = rated a; judged = (w, b, z .0, rates, rate-never-wide t w v b a rates); result = e }

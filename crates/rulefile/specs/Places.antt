@@ -3,16 +3,15 @@
 --   cut-names       refusal 1 names the file's length
 --   long-names      refusal 2 names the byte of the first faulty number that breaks the rule
 --   range-names     refusal 3 names the first byte of that number
-use Prim.Native.Nat.{ℕ, zero, suc, _+_, _-_, _≤_, _<_}
-use mathlib.Core.Path.{_≡_, refl, ap, sym, _∙_, subst}
+use Prim.Native.Nat.{ℕ, zero, suc, _+_, _-_, _≤_}
+use mathlib.Core.Path.{_≡_, refl, sym, _∙_}
 use mathlib.Core.List.{List}
 use native.Mathlib.Omega.{arith}
 use lib.ListN.{length, drop, length-drop}
 use Rattle.sevens.specs.Laws.{BadByte, cut-length, long-byte}
-use Rattle.rulefile.specs.declared.Num.{Num}
 use Rattle.rulefile.specs.File.{groups, numAt, refusedRead, readOf}
 use Rattle.rulefile.specs.Steps.{num-cases}
-use Rattle.rulefile.specs.Order.{lowest, highest, nOf, startOf, numberAt, FirstFault, refused-iff}
+use Rattle.rulefile.specs.Order.{lowest, highest, nOf, startOf, FirstFault, refused-iff}
 
 -- ---- one number
 

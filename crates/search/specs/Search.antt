@@ -11,14 +11,14 @@
 use mathlib.Core.Path.{_≡_}
 use mathlib.Core.Bool.{Bool, true, false}
 use mathlib.Core.List.{List}
-use Prim.Native.Nat.{ℕ, suc, _+_, _*_, _≤_, _<_}
+use Prim.Native.Nat.{ℕ, suc, _*_, _≤_, _<_}
 use lib.ListN.{length, getD}
 use Rattle.model.specs.Shape.{Shape}
 use Rattle.model.specs.Sums.{delays, offsets}
 use Rattle.model.specs.Walk.{Walk}
 use Rattle.model.specs.Schedule.{Keeps}
 use Rattle.theory.specs.Relax.{Below}
-use Rattle.theory.specs.Parents.{Parents, Sound, Grounded}
+use Rattle.theory.specs.Parents.{Parents, Grounded}
 use Rattle.theory.specs.Raise.{Raised}
 use Rattle.theory.specs.Climb.{ClosedWalk, Climbed}
 

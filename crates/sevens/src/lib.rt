@@ -1,10 +1,10 @@
 // Numbers in groups of seven bits: one read off the front of lent bytes, one written into a lent buffer.
 ghost use mathlib.Core.List.{[]};
 ghost use mathlib.Core.Path.{_≡_};
-ghost use Prim.Native.Nat.{ℕ, _+_, _≤_, _<_};
+ghost use Prim.Native.Nat.{_+_, _≤_, _<_};
 ghost use lib.ListN.{length, getD};
 ghost use denote.Ref.{ptr};
-ghost use Rattle.sevens.specs.Sevens.{rawOf, cutPlace, longPlace, numberOf, Read, codeOf, codeLength, putOf, Put};
+ghost use Rattle.sevens.specs.Sevens.{rawOf, cutPlace, longPlace, Read, codeLength, putOf};
 
 // A number has at most this many groups.
 pub const GROUPS: usize = 3;

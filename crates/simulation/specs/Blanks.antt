@@ -3,7 +3,7 @@
 --   BlankAt t r     == r is the lowest rule of t with an unknown delay, or m where no delay is unknown
 --   timed-same      times ask for the delays of rules alone
 --   columns-live, columns-timed   what is said of a table's columns is said of the table
-use mathlib.Core.Path.{_≡_, refl, sym, ap, _∙_, subst}
+use mathlib.Core.Path.{_≡_, sym, ap, _∙_, subst}
 use mathlib.Core.Bool.{Bool}
 use mathlib.Core.Logic.{inl, inr, ⊎-elim, by-cases}
 use mathlib.Core.List.{List}

@@ -2,7 +2,7 @@
 --
 --   Passed t N len       == nothing speaks against a simulation of t for N occurrences into len places
 --   Judgement t N len r  == r refuses it, as the promise says; or nothing speaks against it, and r is 0 at 0
-use mathlib.Core.Path.{_≡_, refl, sym, ap, _∙_, subst}
+use mathlib.Core.Path.{_≡_, refl}
 use mathlib.Core.Logic.{inl, inr}
 use mathlib.Core.List.{List}
 use Prim.Native.Nat.{ℕ, _*_, _≤_, _<_}
@@ -19,7 +19,7 @@ use Rattle.table.specs.Meaning.{shapeOf, rangesOf}
 use Rattle.engine.specs.declared.Turned.{Turned}
 use Rattle.engine.specs.Turn.{TurnOf}
 use Rattle.simulation.specs.declared.Simulated.{Simulated}
-use Rattle.simulation.specs.Simulation.{Span, NoBlank, FirstBlank, Refused, Answered, SimulationOf}
+use Rattle.simulation.specs.Simulation.{Span, NoBlank, FirstBlank, Refused, SimulationOf}
 
 pub record Passed (t : Table) (N len : ℕ) : Type 0 where
   pub within : Within t

@@ -16,17 +16,17 @@
 --                         == every time written so far is right, and low
 --   Going, Row            == a row begun, with k of its times written; and a row made
 --   Begun, Rows           == the first i rows; and all of them
-use mathlib.Core.Path.{_≡_, refl, sym, ap, subst, _∙_}
+use mathlib.Core.Path.{_≡_, refl, sym, ap, _∙_}
 use mathlib.Core.Logic.{_≢_, _⊎_, inl, inr, ⊎-elim, by-cases}
 use mathlib.Core.List.{List}
-use Prim.Native.Nat.{ℕ, zero, suc, _+_, _*_, _-_, _≤_, _<_}
+use Prim.Native.Nat.{ℕ, _+_, _*_, _-_, _≤_, _<_}
 use native.Mathlib.Omega.{arith}
 use native.Mathlib.Nat.{mul-le-mul, mul-le-mul-right, le-trans}
-use native.Mathlib.Decide.{ℕ-discrete, decLt}
+use native.Mathlib.Decide.{ℕ-discrete}
 use lib.ListN.{length, getD, set, length-set}
 use lib.Seq.{getD-set-same, getD-set-other}
 use Rattle.simulation.specs.Groups.{Within, Bounded}
-use Rattle.simulation.specs.Order.{Ordered, Complete}
+use Rattle.simulation.specs.Order.{Complete}
 
 abbrev pub at : ℕ → List ℕ → ℕ → ℕ → ℕ
 at n X i v = getD X (i * n + v) 0

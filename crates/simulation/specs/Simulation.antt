@@ -18,7 +18,7 @@ use lib.ListN.{length, getD}
 use Rattle.model.specs.Loop.{Live}
 use Rattle.model.specs.Knot.{Knot}
 use Rattle.model.specs.Times.{Timed}
-use Rattle.theory.specs.Search.{First, none-or-first}
+use Rattle.theory.specs.Search.{none-or-first}
 use Rattle.theory.specs.Knot.{knot-or-live}
 use Rattle.theory.specs.Times.{timed-unique}
 use Rattle.table.specs.declared.Delay.{Delay}

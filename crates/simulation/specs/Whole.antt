@@ -5,17 +5,17 @@
 --   groups-ranked    where every loop turns there is a rank along the groups' rules of offset 0
 --   groups-plan      with an order they are a plan
 --   rows-timed       the rows made along it are the times
-use mathlib.Core.Path.{_≡_, refl, sym, ap, subst, _∙_}
+use mathlib.Core.Path.{_≡_, refl, sym, _∙_}
 use mathlib.Core.Logic.{_⊎_, inl, inr, ⊎-elim}
 use mathlib.Core.List.{List}
-use Prim.Native.Nat.{ℕ, _+_, _*_, _-_, _≤_, _<_}
+use Prim.Native.Nat.{ℕ, _+_, _-_, _≤_, _<_}
 use native.Mathlib.Omega.{arith}
-use lib.ListN.{length, getD, replicate}
+use lib.ListN.{getD, replicate}
 use Rattle.model.specs.Shape.{Shape}
 use Rattle.model.specs.Loop.{Live}
-use Rattle.model.specs.Times.{Acts, asked, Cause, IsTime, Timed}
+use Rattle.model.specs.Times.{Acts, asked, Cause, Timed}
 use Rattle.theory.specs.Relax.{zeros-at}
-use Rattle.theory.specs.Rank.{ZeroRanks, live-ranks}
+use Rattle.theory.specs.Rank.{live-ranks}
 use Rattle.columns.specs.Columns.{shape, delayAt, Limits, Short}
 use Rattle.simulation.specs.Groups.{Within, Grouped, Rearranged, Bounded, grouped-ends, grouped-rising}
 use Rattle.simulation.specs.Order.{Ranked, Complete}

@@ -1,7 +1,6 @@
 // The rows of times: each in one sweep along the order.
-ghost use mathlib.Core.Path.{_≡_};
-ghost use Prim.Native.Nat.{ℕ, _+_, _-_, _*_, _≤_, _<_};
-ghost use lib.ListN.{length, getD};
+ghost use Prim.Native.Nat.{_+_, _-_, _*_, _≤_, _<_};
+ghost use lib.ListN.{length};
 ghost use Rattle.simulation.specs.Rows.{Asks, Larger, AsksAll, Pulled, Plan, Done, Row, Rows};
 use crate::wide;
 

@@ -1,6 +1,5 @@
 // The times of rules within the limits, by groups, order and rows.
-ghost use mathlib.Core.Path.{_≡_};
-ghost use Prim.Native.Nat.{ℕ, _*_, _≤_, _<_};
+ghost use Prim.Native.Nat.{_*_, _≤_};
 ghost use lib.ListN.{length};
 ghost use Rattle.model.specs.Loop.{Live};
 ghost use Rattle.model.specs.Times.{Timed};

@@ -8,15 +8,14 @@
 --
 -- Laws: used-rule (a rule in use is the one in its place), within-fits, within-offsets, within-delays (a table within its limits is what the theory asks for),
 -- used-same (tables with the same rules in use are read alike).
-use mathlib.Core.Path.{_≡_, refl, sym, ap, _∙_, subst}
+use mathlib.Core.Path.{_≡_, sym, ap, _∙_, subst}
 use mathlib.Core.List.{List}
 use Prim.Native.Nat.{ℕ, _≤_, _<_}
-use native.Mathlib.Omega.{arith}
 use native.Mathlib.Nat.{le-refl}
 use lib.ListN.{getD, take}
 use lib.Seq.{getD-take}
 use Rattle.model.specs.Shape.{Shape, Fits}
-use Rattle.model.specs.Filling.{Ranges, ranges, leastOf, greatestOf}
+use Rattle.model.specs.Filling.{Ranges, ranges, greatestOf}
 use Rattle.model.specs.Filling as model
 use Rattle.table.specs.Limits.{maxOffset, maxDelay}
 use Rattle.table.specs.Form.{unusedRule, ruleOf}

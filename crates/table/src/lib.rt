@@ -1,6 +1,6 @@
 // A table of transitions and rules, its limits, and the check of a table handed in.
 ghost use mathlib.Core.Path.{_≡_};
-ghost use Prim.Native.Nat.{ℕ, _+_, _*_, _≤_, _<_};
+ghost use Prim.Native.Nat.{_+_, _*_, _<_};
 ghost use Rattle.table.specs.Limits.{minN, maxN, maxM, maxOffset, maxDelay, minOccurrences, maxOccurrences};
 ghost use Rattle.table.specs.Form.{emptyTable};
 ghost use Rattle.table.specs.Fields.{FirstIn, Judged};

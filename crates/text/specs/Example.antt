@@ -9,17 +9,17 @@ use Rattle.text.specs.Text.{periodLine, answerText}
 
 -- the answer to P1
 abbrev one : Answer
-one = record { lowP = 7; lowQ = 1; highP = 7; highQ = 1; exact = true; lowLoop = 0 ∷ 1 ∷ []; highLoop = 0 ∷ 1 ∷ []; schedule = 0 ∷ 3 ∷ [] }
+one = record { ends = record { lowP = 7; lowQ = 1; highP = 7; highQ = 1; exact = true }; lowLoop = 0 ∷ 1 ∷ []; highLoop = 0 ∷ 1 ∷ []; schedule = 0 ∷ 3 ∷ [] }
 
 -- the ends of P3
 abbrev three : Answer
-three = record { lowP = 3; lowQ = 1; highP = 1000003; highQ = 1; exact = false; lowLoop = 0 ∷ 1 ∷ []; highLoop = 0 ∷ 1 ∷ []; schedule = 0 ∷ 3 ∷ [] }
+three = record { ends = record { lowP = 3; lowQ = 1; highP = 1000003; highQ = 1; exact = false }; lowLoop = 0 ∷ 1 ∷ []; highLoop = 0 ∷ 1 ∷ []; schedule = 0 ∷ 3 ∷ [] }
 
 pub four-lines : answerText one ≡ ascii "period 7/1 exact\nlow 0 1\nhigh 0 1\nschedule 1 0 3\n"
 unfolding decimal digitsIn
 four-lines = refl
 
-pub range-line : periodLine three ≡ ascii "period from 3/1 to 1000003/1\n"
+pub range-line : periodLine (three .ends) ≡ ascii "period from 3/1 to 1000003/1\n"
 unfolding decimal digitsIn
 range-line = refl
 

@@ -1,6 +1,7 @@
 -- Steps of the proofs: the text made of an analysis is the text for its table.
 --
---   answerOf r l h x     the answer that the analysis r, with the loops l and h and the schedule x, stands for
+--   endsOf r             the ends of the analysis r
+--   answerOf r l h x     the answer that it stands for, with the loops l and h and the schedule x
 --   TableReport t r      what `judged` promises
 --   Sized n o            the lists of an outcome are there, and not long
 --
@@ -13,6 +14,7 @@ use lib.Dec.{ltb}
 use lib.ListN.{length, take, drop, replicate, length-append, length-replicate}
 use lib.Seq.{take-append-seam, take-at}
 use borrow.Author.Tests.{lt-ltb, le-ltb}
+use Rattle.model.specs.Ends.{Range}
 use Rattle.model.specs.Answer.{Answer}
 use Rattle.theory.specs.Loop.{loop-short}
 use Rattle.table.specs.declared.Table.{Table}
@@ -28,9 +30,11 @@ use Rattle.words.specs.Lines.{refusedLine}
 use Rattle.words.specs.Held.{Holds}
 use Rattle.text.specs.Text.{answerText, verdictText, TableText, ReadText, ReportOf}
 
+abbrev pub endsOf : Analysis → Range
+endsOf r = record { lowP = r .low .p; lowQ = r .low .q; highP = r .high .p; highQ = r .high .q; exact = r .exact }
+
 abbrev pub answerOf : Analysis → List ℕ → List ℕ → List ℕ → Answer
-answerOf r l h x =
-    record { lowP = r .low .p; lowQ = r .low .q; highP = r .high .p; highQ = r .high .q; exact = r .exact; lowLoop = l; highLoop = h; schedule = x }
+answerOf r l h x = record { ends = endsOf r; lowLoop = l; highLoop = h; schedule = x }
 
 -- what `judged` promises: the text for a table, held whole
 pub record TableReport (t : Table) (r : Text) : Type 0 where
@@ -46,7 +50,7 @@ madeText n o =
     (answerText (answerOf (o .result) (take (o .result .low .len) (o .low)) (take (o .result .high .len) (o .high)) (take n (o .schedule))))
 
 same-answer : (a : Answer) (l h x : List ℕ) → l ≡ a .lowLoop → h ≡ a .highLoop → x ≡ a .schedule
-    → answerText (record { lowP = a .lowP; lowQ = a .lowQ; highP = a .highP; highQ = a .highQ; exact = a .exact; lowLoop = l; highLoop = h; schedule = x }) ≡ answerText a
+    → answerText (record { ends = a .ends; lowLoop = l; highLoop = h; schedule = x }) ≡ answerText a
 same-answer a l h x e f g = rw (e, f, g)
 
 made-verdict : (t : Table) (v : Verdict) (x l h : List ℕ) → Judges t v → madeText (t .n) (judgedOutcome v x l h) ≡ verdictText v

@@ -17,6 +17,7 @@ use Prim.Native.Nat.{ℕ, _+_, _≤_, _<_}
 use native.Mathlib.Omega.{arith}
 use native.Mathlib.Decide.{decLt}
 use lib.ListN.{length, take}
+use Rattle.model.specs.Ends.{Range}
 use Rattle.model.specs.Answer.{Answer}
 use Rattle.sevens.specs.Sevens.{Bytes}
 use Rattle.table.specs.declared.Table.{Table}
@@ -39,16 +40,16 @@ listLine name xs = name ++ (numbers xs ++ newline)
 -- ------------------------------------------------------------------------------------------------------------------------------------- the text
 
 -- line 1: the period where it is exact, else its two ends
-abbrev pub periodLine : Answer → List ℕ
+abbrev pub periodLine : Range → List ℕ
 periodLine a = pick (a .exact) (exactLine (a .highP) (a .highQ)) (rangeLine (a .lowP) (a .lowQ) (a .highP) (a .highQ))
 
 -- then the rule numbers of the low and of the high loop, and Q of the high end with X of each transition
 abbrev pub answerText : Answer → List ℕ
 answerText a =
-    periodLine a
+    periodLine (a .ends)
     ++ (listLine (ascii "low") (a .lowLoop)
     ++ (listLine (ascii "high") (a .highLoop)
-    ++ listLine (ascii "schedule") (a .highQ ∷ a .schedule)))
+    ++ listLine (ascii "schedule") (a .ends .highQ ∷ a .schedule)))
 
 -- a refusal is one line
 abbrev pub verdictText : Verdict → List ℕ

@@ -1,11 +1,11 @@
 // The lines of a report, each put into a lent buffer from a place on, with a bound on what it takes.
-ghost use mathlib.Core.List.{[], _∷_};
-ghost use Prim.Native.Nat.{ℕ, _+_, _*_, _≤_};
+ghost use mathlib.Core.List.{_∷_};
+ghost use Prim.Native.Nat.{_+_, _*_, _≤_};
 ghost use lib.ListN.{length};
 ghost use Rattle.words.specs.Decimal.{ascii, numbers};
 ghost use Rattle.words.specs.Puts.{Puts};
 ghost use Rattle.text.specs.Text.{periodLine, listLine, answerText};
-ghost use Rattle.text.specs.Made.{answerOf};
+ghost use Rattle.text.specs.Made.{endsOf, answerOf};
 use period::Analysis;
 
 // Numbers, each after a space.
@@ -35,7 +35,7 @@ fn rules(xs: &[u32], out: &mut [u8], at: usize) -> usize
 }
 
 fn period_line(a: Analysis, out: &mut [u8], at: usize) -> usize
-    ensures { λ r. ⌜ Puts (periodLine (answerOf a [] [] [])) (now (out .entry)) at (now (out .exit)) r × (r ≤ at + 99) ⌝ }
+    ensures { λ r. ⌜ Puts (periodLine (endsOf a)) (now (out .entry)) at (now (out .exit)) r × (r ≤ at + 99) ⌝ }
 {
     let low = a.low;
     let high = a.high;

@@ -2,7 +2,6 @@
 --
 --   answer-unique, answer-exists
 use mathlib.Core.Path.{_≡_}
-use mathlib.Core.Bool.{Bool}
 use mathlib.Core.List.{List}
 use Prim.Native.Nat.{ℕ, _≤_, _<_}
 use native.Mathlib.Omega.{arith}
@@ -10,6 +9,7 @@ use Rattle.model.specs.Shape.{Shape, Fits}
 use Rattle.model.specs.Loop.{SomeLoop, Live}
 use Rattle.model.specs.Period.{Period}
 use Rattle.model.specs.Filling.{Ranges}
+use Rattle.model.specs.Ends.{Range}
 use Rattle.model.specs.Reported.{Reported}
 use Rattle.model.specs.Schedule.{LeastSchedule}
 use Rattle.model.specs.Answer.{Answer, Answers}
@@ -18,24 +18,21 @@ use Rattle.theory.specs.Schedule.{least-unique}
 use Rattle.theory.specs.Period.{period-exists, period-schedule}
 use Rattle.theory.specs.Reported.{reported-unique, reported-exists}
 use Rattle.theory.specs.Filling.{Proper}
-use Rattle.theory.specs.Ends.{period-steady, low-unique, high-unique, exact-unique, exact-exists, low-is, high-is}
+use Rattle.theory.specs.Ends.{period-steady, range-unique, range-is, exact-exists}
 
-abbrev answer : ℕ → ℕ → ℕ → ℕ → Bool → List ℕ → List ℕ → List ℕ → Answer
-answer a b c d e l h x = record { lowP = a; lowQ = b; highP = c; highQ = d; exact = e; lowLoop = l; highLoop = h; schedule = x }
-
-same : {a b c d a′ b′ c′ d′ : ℕ} {e e′ : Bool} {l h x l′ h′ x′ : List ℕ} → a ≡ a′ → b ≡ b′ → c ≡ c′ → d ≡ d′ → e ≡ e′ → l ≡ l′ → h ≡ h′ → x ≡ x′ → answer a b c d e l h x ≡ answer a′ b′ c′ d′ e′ l′ h′ x′
-same q1 q2 q3 q4 q5 q6 q7 q8 = cc
+same : {e e′ : Range} {l h x l′ h′ x′ : List ℕ} → e ≡ e′ → l ≡ l′ → h ≡ h′ → x ≡ x′
+    → _≡_ {A = Answer} (record { ends = e; lowLoop = l; highLoop = h; schedule = x }) (record { ends = e′; lowLoop = l′; highLoop = h′; schedule = x′ })
+same q1 q2 q3 q4 = cc
 
 module _ (S : Shape) (K : Ranges) (n : ℕ) where
   -- ONLY ONE: each part is
   pub answer-unique : (a b : Answer) → Answers S K n a → Answers S K n b → a ≡ b
   answer-unique a b x y =
-      let lo = low-unique S K (Period S) (period-steady S) _ _ _ _ (x .low) (y .low) in
-      let hi = high-unique S K (Period S) (period-steady S) _ _ _ _ (x .high) (y .high) in
-      let lr : Reported S K.least (a .lowP) (a .lowQ) (y .low-at) (b .lowLoop) = rw (lo .0, lo .1) (y .low-loop) in
-      let hr : Reported S K.greatest (a .highP) (a .highQ) (y .high-at) (b .highLoop) = rw (hi .0, hi .1) (y .high-loop) in
-      let hs : LeastSchedule S K.greatest n (a .highP) (a .highQ) (b .schedule) = rw (hi .0, hi .1) (y .schedule) in
-      same (lo .0) (lo .1) (hi .0) (hi .1) (exact-unique (lo .0) (lo .1) (hi .0) (hi .1) (x .meet) (y .meet))
+      let e = range-unique S K (Period S) (period-steady S) (a .ends) (b .ends) (x .ends) (y .ends) in
+      let lr : Reported S K.least (a .ends .lowP) (a .ends .lowQ) (y .low-at) (b .lowLoop) = rw e (y .low-loop) in
+      let hr : Reported S K.greatest (a .ends .highP) (a .ends .highQ) (y .high-at) (b .highLoop) = rw e (y .high-loop) in
+      let hs : LeastSchedule S K.greatest n (a .ends .highP) (a .ends .highQ) (b .schedule) = rw e (y .schedule) in
+      same e
       (reported-unique S _ _ _ _ _ _ _ (x .low-loop) lr .1)
       (reported-unique S _ _ _ _ _ _ _ (x .high-loop) hr .1)
       (least-unique S _ n _ _ _ _ (x .schedule) hs)
@@ -51,11 +48,9 @@ module _ (S : Shape) (K : Ranges) (n : ℕ) where
       let (u, rs, ru) = reported-exists S K.least p q (values S K.least p q n n) (ls .is-schedule .keeps) n fits lp in
       let (w, qs, rq) = reported-exists S K.greatest P Q (values S K.greatest P Q n n) (hs .is-schedule .keeps) n fits hp in
       let (e, m) = exact-exists p q P Q in (
-        answer p q P Q e rs qs (values S K.greatest P Q n n),
+        record { ends = record { lowP = p; lowQ = q; highP = P; highQ = Q; exact = e }; lowLoop = rs; highLoop = qs; schedule = values S K.greatest P Q n n },
         record {
-          low = low-is S K (Period S) (period-steady S) proper p q lp ll;
-          high = high-is S K (Period S) (period-steady S) proper P Q hp hl;
-          meet = m;
+          ends = range-is S K (Period S) (period-steady S) proper p q P Q e lp ll hp hl m;
           low-at = u;
           low-loop = ru;
           high-at = w;

@@ -9,23 +9,22 @@
 --   climbed-schedule        the first n values are the least schedule
 --   climbed-reported        the first loop of tight rules is the reported loop
 --   climbed-none            if there is no loop of tight rules, there is no loop
-use mathlib.Core.Path.{_≡_, refl, sym, ap, _∙_}
-use mathlib.Core.Logic.{_⊎_, inl, inr, ⊎-elim}
-use mathlib.Core.List.{List, [], _∷_}
-use Prim.Native.Nat.{ℕ, _+_, _*_, _≤_, _<_}
+use mathlib.Core.Path.{_≡_, ap}
+use mathlib.Core.Logic.{_⊎_, ⊎-elim}
+use mathlib.Core.List.{List}
+use Prim.Native.Nat.{ℕ, _*_, _≤_, _<_}
 use native.Mathlib.Omega.{arith}
-use native.Mathlib.Nat.{mul-le-mul-right, le-of-mul-le-mul-right}
 use lib.ListN.{length, getD, take, length-take}
 use lib.Seq.{getD-take}
 use Rattle.model.specs.Shape.{Shape, Fits}
 use Rattle.model.specs.Sums.{delays, offsets}
 use Rattle.model.specs.Walk.{Walk}
-use Rattle.model.specs.Loop.{Loop, SomeLoop, NoLoop, Live}
+use Rattle.model.specs.Loop.{SomeLoop, NoLoop, Live}
 use Rattle.model.specs.Ratio.{Lowest}
-use Rattle.model.specs.Period.{Attains, Above, Period}
-use Rattle.model.specs.Schedule.{Keeps, Schedule, LeastSchedule}
+use Rattle.model.specs.Period.{Period}
+use Rattle.model.specs.Schedule.{Keeps, LeastSchedule}
 use Rattle.model.specs.Reported.{Reported}
-use Rattle.theory.specs.Sums.{All, zero-all, all-zero}
+use Rattle.theory.specs.Sums.{zero-all, all-zero}
 use Rattle.theory.specs.Loop.{LoopOf, closed-loop}
 use Rattle.theory.specs.Schedule.{TightRule, closed-not-above, attaining-of-rules, rules-of-attaining}
 use Rattle.theory.specs.Relax.{Below}

@@ -4,14 +4,16 @@
 --   Steady S M                    == what this asks of a measure; period-steady: the period is one
 --   low-unique, high-unique       there is one low end and one high end, from the definition alone
 --   exact-unique, exact-exists    and one answer to whether they meet
+--   range-unique                  so there is one range
 --   low-is, high-is               blanks at the least give the low end, blanks at the greatest the high end
+--   range-is                      and both give the range
 --   low-at-least, high-at-greatest    and each end is the quotient there
 --   given-exact                   without blanks the ends meet
 --   exact-every, every-exact      the ends meet just where every filling gives one and the same quotient
 --   low-inward, high-inward       filling blanks moves neither end outward
 --   exact-stays                   and leaves an exact one as it is
 --   high-keeps                    a schedule of the greatest delays keeps every rule under every filling
-use mathlib.Core.Path.{_≡_, refl, sym, ap, _∙_}
+use mathlib.Core.Path.{_≡_, refl, sym, _∙_}
 use mathlib.Core.Bool.{Bool, true, false}
 use mathlib.Core.Logic.{inl, inr, by-cases, Dec·and}
 use mathlib.Core.List.{List}
@@ -23,7 +25,7 @@ use Rattle.model.specs.Shape.{Shape}
 use Rattle.model.specs.Ratio.{Lowest}
 use Rattle.model.specs.Period.{Period}
 use Rattle.model.specs.Filling.{Ranges, Filling, Given}
-use Rattle.model.specs.Ends.{Measure, LowEnd, HighEnd, Exact, Narrows}
+use Rattle.model.specs.Ends.{Measure, LowEnd, HighEnd, Exact, Range, RangeOf, Narrows}
 use Rattle.model.specs.Schedule.{Keeps}
 use Rattle.theory.specs.Ratio.{lowest-unique}
 use Rattle.theory.specs.Schedule.{keeps-shorter}
@@ -47,6 +49,10 @@ exact-unique p q P Q (inr x) (inl y) = absurd (x .0 (p ∙ y .0 ∙ sym P, q ∙
 pub exact-exists : (p q P Q : ℕ) → (e : Bool) × Exact p q P Q e
 exact-exists p q P Q = by-cases (Dec·and (ℕ-discrete p P) (ℕ-discrete q Q)) (λ s. (true, inl (s .0, s .1, refl {a = true}))) (λ d. (false, inr (d, refl {a = false})))
 
+same : {p q P Q p′ q′ P′ Q′ : ℕ} {e e′ : Bool} → p ≡ p′ → q ≡ q′ → P ≡ P′ → Q ≡ Q′ → e ≡ e′
+    → _≡_ {A = Range} (record { lowP = p; lowQ = q; highP = P; highQ = Q; exact = e }) (record { lowP = p′; lowQ = q′; highP = P′; highQ = Q′; exact = e′ })
+same q1 q2 q3 q4 q5 = cc
+
 module _ (S : Shape) (K : Ranges) (M : Measure) (steady : Steady S M) where
   pos : (D : ℕ → ℕ) {P Q : ℕ} → M D P Q → 0 < Q
   pos D x = steady .Q-pos D _ _ x
@@ -61,6 +67,12 @@ module _ (S : Shape) (K : Ranges) (M : Measure) (steady : Steady S M) where
   high-unique P Q P′ Q′ a b =
       lowest-unique P Q P′ Q′ (pos (a .attained .D) (a .attained .given)) (pos (b .attained .D) (b .attained .given)) (a .attained .lowest) (b .attained .lowest)
       (le-antisymm (b .greatest (a .attained .D) (a .attained .fills) P Q (a .attained .given)) (a .greatest (b .attained .D) (b .attained .fills) P′ Q′ (b .attained .given)))
+
+  pub range-unique : (a b : Range) → RangeOf S K M a → RangeOf S K M b → a ≡ b
+  range-unique a b x y =
+      let l = low-unique _ _ _ _ (x .low) (y .low) in
+      let h = high-unique _ _ _ _ (x .high) (y .high) in
+      same (l .0) (l .1) (h .0) (h .1) (exact-unique (l .0) (l .1) (h .0) (h .1) (x .meet) (y .meet))
 
   -- ATTAINED AT THE LEAST AND AT THE GREATEST DELAYS: longer delays give no lower quotient
   module _ (proper : Proper S K) where
@@ -77,6 +89,9 @@ module _ (S : Shape) (K : Ranges) (M : Measure) (steady : Steady S M) where
           attained = record { D = K.greatest; fills = high-filling S K proper; given = p; lowest = l };
           greatest = λ E f P′ Q′ q. steady .rising E K.greatest (λ r b. f r b .1) P′ Q′ P Q q p;
         }
+
+    pub range-is : (p q P Q : ℕ) (e : Bool) → M K.least p q → Lowest p q → M K.greatest P Q → Lowest P Q → Exact p q P Q e → RangeOf S K M (record { lowP = p; lowQ = q; highP = P; highQ = Q; exact = e })
+    range-is p q P Q e x l y h m = record { low = low-is p q x l; high = high-is P Q y h; meet = m }
 
     -- AND ONLY AT THAT QUOTIENT
     pub low-at-least : (P Q p q : ℕ) → LowEnd S K M P Q → M K.least p q → Lowest p q → M K.least P Q

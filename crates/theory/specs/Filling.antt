@@ -4,7 +4,7 @@
 --   known-filled, unknown-filled       a known delay is kept; an unknown one may be anything from 0 to M, and nothing else
 --   low-filling, high-filling          the least delays are a filling, and so are the greatest
 --   given-one                          without blanks there is one filling
-use mathlib.Core.Path.{_≡_, refl}
+use mathlib.Core.Path.{_≡_}
 use Prim.Native.Nat.{ℕ, _≤_, _<_}
 use native.Mathlib.Omega.{arith}
 use native.Mathlib.Nat.{le-refl}

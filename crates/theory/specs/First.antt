@@ -8,12 +8,12 @@
 --   FirstLoop S A u rs   == the first of them
 --   none-or-first-loop   there is none, or a first
 --   route-loop           the first shortest route from the lowest transition that has one is the first loop
-use mathlib.Core.Path.{_≡_, refl, sym, ap, _∙_, subst}
+use mathlib.Core.Path.{_≡_, refl, ap, _∙_, subst}
 use mathlib.Core.Logic.{_⊎_, inl, inr, ⊎-elim, by-cases}
 use mathlib.Core.List.{List, [], _∷_, _++_}
 use Prim.Native.Nat.{ℕ, zero, suc, _≤_, _<_}
 use native.Mathlib.Omega.{arith}
-use native.Mathlib.Nat.{suc-inj, lt-of-not-le, le-antisymm}
+use native.Mathlib.Nat.{suc-inj, lt-of-not-le}
 use native.Mathlib.Decide.{ℕ-discrete, decLt, decLe}
 use lib.ListN.{length}
 use Rattle.model.specs.Shape.{Shape, Fits}

@@ -5,9 +5,9 @@
 --   live-gathered      if every loop of S turns, so does every loop of T
 --   none-gathered      if T has no loop, none of S reaches v
 --   rate-gathered      the period of T is the rate of v
-use mathlib.Core.Path.{_≡_, refl, sym, ap, _∙_}
+use mathlib.Core.Path.{_≡_, refl, ap, _∙_}
 use mathlib.Core.List.{List, [], _∷_, map}
-use Prim.Native.Nat.{ℕ, _+_, _*_, _≤_, _<_}
+use Prim.Native.Nat.{ℕ, _*_, _<_}
 use native.Mathlib.Omega.{arith}
 use lib.ListN.{length}
 use Rattle.model.specs.Shape.{Shape}
@@ -18,7 +18,7 @@ use Rattle.model.specs.Period.{Period, NotAbove}
 use Rattle.model.specs.Rate.{Reaches, LoopTo, NoLoopTo, Rate}
 use Rattle.theory.specs.Sums.{All}
 use Rattle.theory.specs.First.{KindLoop}
-use Rattle.theory.specs.Near.{Picks, named-loop, Places, places-loop, placed-loop, picked-none}
+use Rattle.theory.specs.Near.{Picks, named-loop, places-loop, placed-loop, picked-none}
 use Rattle.theory.specs.Rate.{reach-over}
 
 abbrev pub Reaching : Shape → ℕ → ℕ → Type 0

@@ -15,7 +15,7 @@ use Rattle.model.specs.Sums.{offsets}
 use Rattle.model.specs.Loop.{Loop, SomeLoop, NoLoop, Live}
 use Rattle.model.specs.Knot.{Knot}
 use Rattle.theory.specs.Sums.{All, zero-all, all-zero}
-use Rattle.theory.specs.First.{KindLoop, FirstLoop, none-or-first-loop}
+use Rattle.theory.specs.First.{FirstLoop, none-or-first-loop}
 
 -- ONLY ONE
 pub knot-unique : (S : Shape) (u w : ℕ) → Knot S u → Knot S w → u ≡ w

@@ -6,7 +6,7 @@
 --   own-linear               THERE IS A LINEAR TIMING FUNCTION WITH THESE RATES: (2.7), (2.8)
 --   periods-rise             the cycle periods of a linear timing function never fall along a rule: (2.8)
 --   linear-rates-minimum     and none is below the rate
-use mathlib.Core.Path.{_≡_, refl, sym, ap, subst}
+use mathlib.Core.Path.{_≡_, refl, ap, subst}
 use mathlib.Core.Logic.{_⊎_, inl, inr, ⊎-elim, by-cases}
 use mathlib.Core.List.{List, [], _∷_, _++_}
 use Prim.Native.Nat.{ℕ, zero, suc, _+_, _*_, _-_, _≤_, _<_}

@@ -9,11 +9,11 @@ use mathlib.Core.Logic.{⊎-elim}
 use mathlib.Core.List.{List, [], _∷_, _++_}
 use Prim.Native.Nat.{ℕ, suc, _≤_, _<_}
 use native.Mathlib.Omega.{arith}
-use lib.ListN.{length, length-append}
+use lib.ListN.{length}
 use Rattle.model.specs.Shape.{Shape, Fits}
 use Rattle.model.specs.Sums.{delays, offsets}
 use Rattle.model.specs.Distinct.{Distinct}
-use Rattle.model.specs.Walk.{Walk, sources, visits}
+use Rattle.model.specs.Walk.{Walk, sources}
 use Rattle.model.specs.Loop.{Loop}
 use Rattle.theory.specs.Distinct.{AllBelow, distinct-swap, notIn-last, pigeonhole}
 use Rattle.theory.specs.Sums.{All, all-append, delays-append, offsets-append}

@@ -20,7 +20,7 @@ use Rattle.model.specs.Sums.{delays, offsets}
 use Rattle.model.specs.Distinct.{Distinct}
 use Rattle.model.specs.Walk.{Walk, visits}
 use Rattle.model.specs.Period.{Above}
-use Rattle.theory.specs.Walk.{walk-append, Splits, splits-shorter, path-or-splits, path-short}
+use Rattle.theory.specs.Walk.{walk-append, splits-shorter, path-or-splits, path-short}
 use Rattle.theory.specs.Relax.{zeros-at}
 
 -- what rule r asks of its target

@@ -10,9 +10,9 @@
 --   period-closed      no closed walk is above the period
 --   period-minimum     there is no schedule below the period
 --   schedule-above     there is one at every ratio that is not below
-use mathlib.Core.Path.{_≡_, refl, sym, ap, _∙_}
+use mathlib.Core.Path.{_≡_, sym, ap, _∙_}
 use mathlib.Core.Logic.{⊎-elim}
-use mathlib.Core.List.{List, [], _∷_}
+use mathlib.Core.List.{List}
 use Prim.Native.Nat.{ℕ, zero, suc, _+_, _*_, _/_, _≤_, _<_}
 use native.Mathlib.Omega.{arith}
 use native.Mathlib.Nat.{mul-comm, mul-le-mul, mul-le-mul-left, mul-le-mul-right, le-of-mul-le-mul-left, le-of-mul-le-mul-right, le-antisymm, eq-of-mul-eq-mul-right, div-mul-le-self, div-le-self, le-div-iff-mul-le, le-of-eq, le-trans}
@@ -25,11 +25,10 @@ use Rattle.model.specs.Ratio.{Lowest}
 use Rattle.model.specs.Period.{Attains, NotAbove, Period}
 use Rattle.model.specs.Schedule.{Keeps, LeastSchedule}
 use Rattle.theory.specs.Sums.{delays-more, delays-most, offsets-most}
-use Rattle.theory.specs.Walk.{LoopAbove}
 use Rattle.theory.specs.Loop.{loop-short}
-use Rattle.theory.specs.Ratio.{lowest-least, lowest-unique, divides-pos, Reduces, reduced}
+use Rattle.theory.specs.Ratio.{lowest-least, lowest-unique, divides-pos, reduced}
 use Rattle.theory.specs.Schedule.{closed-not-above}
-use Rattle.theory.specs.Relax.{values, Below, zeros-at, length-passes, passes-least, keeps-or-above}
+use Rattle.theory.specs.Relax.{values, zeros-at, length-passes, passes-least, keeps-or-above}
 
 -- A SCHEDULE AND A LOOP PROVE A PERIOD. Over a loop the schedule comes back to where it was, so no loop's weight at P/Q is above 0.
 pub certified : (S : Shape) (D : ℕ → ℕ) (P Q : ℕ) (X : List ℕ) → Keeps S D P Q X → (u : ℕ) (rs : List ℕ) → 0 < Q → Loop S u rs → 0 < offsets S rs → Attains S D P Q rs → Period S D P Q

@@ -5,16 +5,16 @@
 --   Passing S D P Q A c X₀ X par Done j  == rules in some order, from X₀, where no value was above c: j of them have asked, and those that are Done
 --   raised-start, raised-most, passing-start, passing-raise, passing-leave, passing-skip, passing-carried, passing-end      what each step does to them
 --   settled                              a pass over all rules that raised nothing leaves a schedule
-use mathlib.Core.Path.{_≡_, refl, sym, ap}
+use mathlib.Core.Path.{_≡_, ap}
 use mathlib.Core.Logic.{_⊎_, ⊎-elim, by-cases}
-use mathlib.Core.List.{List, [], _∷_, _++_}
-use Prim.Native.Nat.{ℕ, zero, suc, _+_, _*_, _-_, _≤_, _<_}
+use mathlib.Core.List.{List, [], _∷_}
+use Prim.Native.Nat.{ℕ, suc, _+_, _*_, _-_, _≤_, _<_}
 use native.Mathlib.Omega.{arith}
 use native.Mathlib.Nat.{mul-le-mul-left}
 use native.Mathlib.Decide.{ℕ-discrete}
 use lib.ListN.{length, getD, set, replicate, length-append}
 use lib.Seq.{getD-set-same, getD-set-other}
-use Rattle.model.specs.Shape.{Shape, Fits}
+use Rattle.model.specs.Shape.{Shape}
 use Rattle.model.specs.Sums.{delays, offsets}
 use Rattle.model.specs.Walk.{Walk}
 use Rattle.model.specs.Schedule.{Keeps}

@@ -13,8 +13,7 @@ use lib.ListN.{length, getD, replicate, length-replicate}
 use Rattle.model.specs.Shape.{Shape, Fits}
 use Rattle.model.specs.Sums.{delays, offsets}
 use Rattle.model.specs.Walk.{Walk}
-use Rattle.model.specs.Loop.{Loop, Live}
-use Rattle.model.specs.Schedule.{Keeps}
+use Rattle.model.specs.Loop.{Live}
 use Rattle.theory.specs.Walk.{LoopAbove}
 use Rattle.theory.specs.Loop.{loop-short}
 use Rattle.theory.specs.Relax.{values, keeps-or-above}

@@ -13,7 +13,6 @@
 --   visited, rate-shared, rates-shared       transitions on one loop share their rate
 --   rate-within, period-rate  no rate is above the period, and the transitions of a loop that attains the period have it as their rate
 use mathlib.Core.Path.{_≡_, refl, sym, ap, _∙_, subst}
-use mathlib.Core.Bool.{Bool}
 use mathlib.Core.Logic.{_⊎_, inl, inr, ⊎-elim, by-cases}
 use mathlib.Core.List.{List, [], _∷_, _++_}
 use Prim.Native.Nat.{ℕ, suc, _+_, _*_, _≤_, _<_}
@@ -29,14 +28,15 @@ use Rattle.model.specs.Loop.{Loop, SomeLoop, NoLoop, Live}
 use Rattle.model.specs.Ratio.{Lowest}
 use Rattle.model.specs.Period.{Period}
 use Rattle.model.specs.Filling.{Ranges}
-use Rattle.model.specs.Rate.{Reaches, LoopTo, SomeLoopTo, NoLoopTo, Rate, RateRange, Rates}
+use Rattle.model.specs.Ends.{Range}
+use Rattle.model.specs.Rate.{Reaches, LoopTo, SomeLoopTo, NoLoopTo, Rate, Rates}
 use Rattle.theory.specs.Search.{none-or-first}
 use Rattle.theory.specs.Walk.{walk-append, walk-split, path-short, LoopAbove, Shortened, shorten}
 use Rattle.theory.specs.First.{FirstRoute, no-or-first, first-route}
 use Rattle.theory.specs.Near.{Any, all-any}
 use Rattle.theory.specs.Period.{slower, period-unique, period-exists}
 use Rattle.theory.specs.Filling.{Proper}
-use Rattle.theory.specs.Ends.{Steady, low-unique, high-unique, exact-unique, exact-exists, low-is, high-is}
+use Rattle.theory.specs.Ends.{Steady, range-unique, range-is, exact-exists}
 
 pub reach-here : (S : Shape) (v : ℕ) → Reaches S v v
 reach-here S v = record { way = []; leads = refl }
@@ -193,14 +193,8 @@ module _ (S : Shape) (n : ℕ) (fits : Fits S n) (v : ℕ) where
         rising = λ D E longer P Q P′ Q′ x y. slower (steered S f) D E longer P Q P′ Q′ (rate-steered S v f s D P Q x) (rate-steered S v f s E P′ Q′ y);
       }
 
-  same : {a b c d a′ b′ c′ d′ : ℕ} {e e′ : Bool} → a ≡ a′ → b ≡ b′ → c ≡ c′ → d ≡ d′ → e ≡ e′ → _≡_ {A = RateRange} (record { lowP = a; lowQ = b; highP = c; highQ = d; exact = e }) (record { lowP = a′; lowQ = b′; highP = c′; highQ = d′; exact = e′ })
-  same q1 q2 q3 q4 q5 = cc
-
-  pub rates-unique : (K : Ranges) (a b : RateRange) → Rates S K v a → Rates S K v b → a ≡ b
-  rates-unique K a b x y =
-      let l = low-unique S K (λ D. Rate S D v) rate-steady _ _ _ _ (x .low) (y .low) in
-      let h = high-unique S K (λ D. Rate S D v) rate-steady _ _ _ _ (x .high) (y .high) in
-      same (l .0) (l .1) (h .0) (h .1) (exact-unique (l .0) (l .1) (h .0) (h .1) (x .meet) (y .meet))
+  pub rates-unique : (K : Ranges) (a b : Range) → Rates S K v a → Rates S K v b → a ≡ b
+  rates-unique K = range-unique S K (λ D. Rate S D v) rate-steady
 
   module _ (b : v < n) (E M : ℕ) (off : (r : ℕ) → r < S.rules → S.offset r ≤ E) (live : Live S) (some : SomeLoopTo S v) where
     -- THERE IS A RATE
@@ -210,14 +204,12 @@ module _ (S : Shape) (n : ℕ) (fits : Fits S n) (v : ℕ) where
         (p, q, rate-plain S v f s D p q x, l)
 
     -- AND A RANGE
-    pub rates-exist : (K : Ranges) → Proper S K → ((r : ℕ) → r < S.rules → K.greatest r ≤ M) → (a : RateRange) × Rates S K v a
+    pub rates-exist : (K : Ranges) → Proper S K → ((r : ℕ) → r < S.rules → K.greatest r ≤ M) → (a : Range) × Rates S K v a
     rates-exist K proper most =
         let (p, q, x, l) = rate-exists K.least (λ r c. omega (arith, proper r c, most r c)) in
         let (P, Q, y, h) = rate-exists K.greatest most in
-        let (e, m) = exact-exists p q P Q in (
-          record { lowP = p; lowQ = q; highP = P; highQ = Q; exact = e },
-          record { low = low-is S K (λ D. Rate S D v) rate-steady proper p q x l; high = high-is S K (λ D. Rate S D v) rate-steady proper P Q y h; meet = m },
-        )
+        let (e, m) = exact-exists p q P Q in
+        (record { lowP = p; lowQ = q; highP = P; highQ = Q; exact = e }, range-is S K (λ D. Rate S D v) rate-steady proper p q P Q e x l y h m)
 
 -- ---------------------------------------------------------------------------------------------------------------------- rates of several transitions
 
@@ -258,7 +250,7 @@ module _ (S : Shape) (u w : ℕ) (to : Reaches S u w) (back : Reaches S w u) whe
       }
 
 module _ (S : Shape) (K : Ranges) (u w : ℕ) (to : Reaches S u w) (back : Reaches S w u) where
-  pub rates-shared : (a : RateRange) → Rates S K u a → Rates S K w a
+  pub rates-shared : (a : Range) → Rates S K u a → Rates S K w a
   rates-shared a x =
       let l = x .low .attained in
       let h = x .high .attained in

@@ -1,20 +1,19 @@
 -- Delays, and ranges of delays, that agree below the last rule give the same answers: nobody looks past it.
 --
---   period-same, reported-same, schedule-same, low-same, high-same, answers-same
-use mathlib.Core.Path.{_≡_, refl, sym, ap, _∙_}
+--   period-same, reported-same, schedule-same, answers-same
+use mathlib.Core.Path.{_≡_, refl, ap}
 use mathlib.Core.List.{List, [], _∷_}
-use Prim.Native.Nat.{ℕ, _+_, _*_, _≤_, _<_}
+use Prim.Native.Nat.{ℕ, _*_, _<_}
 use native.Mathlib.Omega.{arith}
-use lib.ListN.{length}
 use Rattle.model.specs.Shape.{Shape}
-use Rattle.model.specs.Sums.{delays, offsets}
+use Rattle.model.specs.Sums.{delays}
 use Rattle.model.specs.Walk.{Walk}
 use Rattle.model.specs.Loop.{Loop}
 use Rattle.model.specs.Period.{Attains, Period}
-use Rattle.model.specs.Schedule.{Keeps, Schedule, LeastSchedule}
+use Rattle.model.specs.Schedule.{LeastSchedule}
 use Rattle.model.specs.Reported.{Reported}
 use Rattle.model.specs.Filling.{Ranges, Filling}
-use Rattle.model.specs.Ends.{Measure, LowEnd, HighEnd}
+use Rattle.model.specs.Ends.{Measure, LowEnd, HighEnd, Range, RangeOf}
 use Rattle.model.specs.Answer.{Answer, Answers}
 
 module _ (S : Shape) (D E : ℕ → ℕ) (same : (r : ℕ) → r < S.rules → D r ≡ E r) where
@@ -64,26 +63,27 @@ module _ (S : Shape) (K K′ : Ranges) (least : (r : ℕ) → r < S.rules → K.
   filling-back : (D : ℕ → ℕ) → Filling S K′ D → Filling S K D
   filling-back D f r b = omega (arith, f r b, least r b, greatest r b)
 
-  pub low-same : (M : Measure) (P Q : ℕ) → LowEnd S K M P Q → LowEnd S K′ M P Q
+  low-same : (M : Measure) (P Q : ℕ) → LowEnd S K M P Q → LowEnd S K′ M P Q
   low-same M P Q x =
       record {
         attained = record { D = x .attained .D; fills = filling-same _ (x .attained .fills); given = x .attained .given; lowest = x .attained .lowest };
         least = λ E f. x .least E (filling-back E f);
       }
 
-  pub high-same : (M : Measure) (P Q : ℕ) → HighEnd S K M P Q → HighEnd S K′ M P Q
+  high-same : (M : Measure) (P Q : ℕ) → HighEnd S K M P Q → HighEnd S K′ M P Q
   high-same M P Q x =
       record {
         attained = record { D = x .attained .D; fills = filling-same _ (x .attained .fills); given = x .attained .given; lowest = x .attained .lowest };
         greatest = λ E f. x .greatest E (filling-back E f);
       }
 
+  range-same : (M : Measure) (a : Range) → RangeOf S K M a → RangeOf S K′ M a
+  range-same M a x = record { low = low-same M _ _ (x .low); high = high-same M _ _ (x .high); meet = x .meet }
+
   pub answers-same : (n : ℕ) (a : Answer) → Answers S K n a → Answers S K′ n a
   answers-same n a x =
       record {
-        low = low-same (Period S) _ _ (x .low);
-        high = high-same (Period S) _ _ (x .high);
-        meet = x .meet;
+        ends = range-same (Period S) _ (x .ends);
         low-at = x .low-at;
         low-loop = reported-same S K.least K′.least least _ _ _ _ (x .low-loop);
         high-at = x .high-at;

@@ -16,7 +16,7 @@ use Rattle.model.specs.Shape.{Shape}
 use Rattle.model.specs.Sums.{delays, offsets}
 use Rattle.model.specs.Walk.{Walk}
 use Rattle.model.specs.Period.{Attains, NotAbove}
-use Rattle.model.specs.Schedule.{Keeps, Schedule, LeastSchedule}
+use Rattle.model.specs.Schedule.{Keeps, LeastSchedule}
 use Rattle.theory.specs.Sums.{All}
 
 -- rule r is tight at X

@@ -4,10 +4,9 @@
 --   linear-minimum                the period is the least ratio with such a function, and has one
 use mathlib.Core.Path.{_≡_, ap}
 use mathlib.Core.List.{List}
-use Prim.Native.Nat.{ℕ, _+_, _*_, _-_, _≤_, _<_}
+use Prim.Native.Nat.{ℕ, _+_, _*_, _-_, _≤_}
 use native.Mathlib.Omega.{arith}
 use native.Mathlib.Nat.{le-refl}
-use lib.ListN.{getD}
 use Rattle.model.specs.Shape.{Shape, Fits}
 use Rattle.model.specs.Period.{Period}
 use Rattle.model.specs.Schedule.{Keeps}

@@ -6,14 +6,14 @@
 use mathlib.Core.Path.{_≡_, sym, _∙_, subst}
 use mathlib.Core.Logic.{⊎-elim, by-cases}
 use mathlib.Core.List.{List}
-use Prim.Native.Nat.{ℕ, zero, suc, _+_, _*_, _-_, _/_, _%_, _≤_, _<_}
+use Prim.Native.Nat.{ℕ, zero, suc, _*_, _-_, _/_, _%_, _≤_, _<_}
 use native.Mathlib.Omega.{arith}
 use native.Mathlib.Nat.{le-antisymm, mul-le-mul-right, mod-lt, div-add-mod'}
 use native.Mathlib.Decide.{ℕ-discrete, decLt}
-use lib.ListN.{length, getD}
+use lib.ListN.{getD}
 use Rattle.model.specs.Shape.{Shape, Fits}
 use Rattle.model.specs.Loop.{Live}
-use Rattle.model.specs.Times.{Acts, asked, Cause, IsTime, AreTimes, Timed}
+use Rattle.model.specs.Times.{Cause, AreTimes, Timed}
 use Rattle.model.specs.Thesis.{Timing}
 use Rattle.theory.specs.Schedule.{same-list}
 use Rattle.theory.specs.Rank.{ZeroRanks, live-ranks}

@@ -19,7 +19,7 @@ use Rattle.model.specs.Distinct.{NotIn, Distinct}
 use Rattle.model.specs.Walk.{Walk, sources, visits}
 use Rattle.model.specs.Loop.{Loop}
 use Rattle.model.specs.Period.{NotAbove, Above}
-use Rattle.theory.specs.Distinct.{AllBelow, distinct-front, notIn-last, pigeonhole}
+use Rattle.theory.specs.Distinct.{AllBelow, distinct-front, pigeonhole}
 use Rattle.theory.specs.Sums.{delays-append, offsets-append}
 
 module _ (S : Shape) where

@@ -4,13 +4,13 @@
 --   small-not-wide    at such P/Q no sum over a loop or a path is wide
 --   never-wide        with delays D, at the period with delays E in lowest terms
 use mathlib.Core.Logic.{⊎-elim}
-use Prim.Native.Nat.{ℕ, _+_, _*_, _≤_, _<_, _^_}
+use Prim.Native.Nat.{ℕ, _*_, _≤_, _<_, _^_}
 use native.Mathlib.Omega.{arith}
 use native.Mathlib.Nat.{mul-le-mul}
 use lib.ListN.{length}
 use Rattle.model.specs.Shape.{Shape, Fits}
 use Rattle.model.specs.Sums.{delays, offsets}
-use Rattle.model.specs.Walk.{Walk, sources}
+use Rattle.model.specs.Walk.{sources}
 use Rattle.model.specs.Ratio.{Lowest}
 use Rattle.model.specs.Period.{Period}
 use Rattle.model.specs.Wide.{WideSum}

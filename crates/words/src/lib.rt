@@ -2,7 +2,7 @@
 // behind what it put; what has no room is left out, so that none asks anything of its caller. Where a bound is promised, it is on what was taken.
 ghost use mathlib.Core.Path.{_≡_};
 ghost use mathlib.Core.List.{[], _∷_};
-ghost use Prim.Native.Nat.{ℕ, _+_, _≤_, _<_};
+ghost use Prim.Native.Nat.{_+_, _≤_, _<_};
 ghost use Rattle.words.specs.Decimal.{numbers};
 ghost use Rattle.words.specs.Decimal.{digit as Decimal·digit, decimal as Decimal·decimal};
 ghost use Rattle.words.specs.Puts.{Puts};

@@ -6,7 +6,6 @@ use lib.ListN.{length, getD, length-set, length-replicate}
 use native.Mathlib.Omega.{arith}
 use Rattle.rates.specs.Rate.{RateOf}
 use Rattle.rates_text.specs.Rates.{noRate, rates-next}
-use borrow.Author.Needs.{needs}
 use Rattle.rates_text.proofs.all_rates.Statement.{statement}
 use Rattle.rates_text.proofs.all_rates.Tie as tie
 

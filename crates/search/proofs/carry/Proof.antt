@@ -1,6 +1,6 @@
 -- `search::carry` meets its contract. The loop's invariant: k rules have asked (`Going`). The measure is what is left of them.
 -- Assumes nothing.
-use Prim.Native.Nat.{_-_, _≤_, _<_}
+use Prim.Native.Nat.{_-_, _≤_}
 use mathlib.Core.Logic.{⊎-elim}
 use native.Mathlib.Omega.{arith}
 use Rattle.columns.specs.Columns.{shape, delayAt}

@@ -1,7 +1,7 @@
 -- `search::raise` meets its contract, on the way that stores and on the one that leaves all as it is.
 -- Assumes nothing.
 use mathlib.Core.Path.{refl}
-use mathlib.Core.Bool.{true, false, true≢false, false≢true}
+use mathlib.Core.Bool.{true≢false, false≢true}
 use native.Mathlib.Omega.{arith}
 use borrow.Author.Needs.{needs}
 use Rattle.search.proofs.raise.Statement.{statement}

@@ -2,7 +2,6 @@
 -- Assumes nothing.
 use native.Mathlib.Omega.{arith}
 use Rattle.rates.specs.Rate.{paced, paced-tight, paced-none}
-use borrow.Author.Needs.{needs}
 use Rattle.rates.proofs.ends.one_end.Statement.{statement}
 use Rattle.rates.proofs.ends.one_end.Tie as tie
 

@@ -1,7 +1,6 @@
 -- `reach::ends_to` meets its contract: the rules gathered are those whose targets reach v, or all where every transition does, and the ends of
 -- their periods are the rate's (`rated-to`). Assumes nothing.
 use mathlib.Core.Path.{refl}
-use borrow.Author.Needs.{needs}
 use Rattle.theory.specs.Gather.{live-gathered}
 use Rattle.rates.specs.Rate.{rated-to}
 use Rattle.rates.specs.Reach.{limits-plain, gathers, gathers-as-they-are, limits-gathered, ordered-gathered}

@@ -5,7 +5,6 @@ use mathlib.Core.Path.{_≡_, refl, subst}
 use lib.ListN.{getD}
 use native.Mathlib.Omega.{arith}
 use Rattle.rates_text.specs.Rates.{noRate, earlierThan, earlier-none, earlier-next}
-use borrow.Author.Needs.{needs}
 use Rattle.rates_text.proofs.line.earlier.Statement.{statement}
 use Rattle.rates_text.proofs.line.earlier.Tie as tie
 

@@ -1,13 +1,12 @@
 -- `rates_text::line::members` meets its contract: a loop over all transitions.
 -- Invariant: those of the first k that share the rate are put, in at most 21 bytes each. The measure is how many are left. Assumes nothing.
-use Prim.Native.Nat.{ℕ, _+_, _*_, _-_, _≤_}
+use Prim.Native.Nat.{_+_, _*_, _-_, _≤_}
 use mathlib.Core.Path.{_≡_, refl, subst}
 use lib.ListN.{getD}
 use native.Mathlib.Omega.{arith}
 use Rattle.words.specs.Decimal.{numbers}
 use Rattle.words.specs.Puts.{Puts, puts-none, puts-length, puts-same}
 use Rattle.rates_text.specs.Rates.{noRate, membersTo, members-none, members-next}
-use borrow.Author.Needs.{needs}
 use Rattle.rates_text.proofs.line.members.Statement.{statement}
 use Rattle.rates_text.proofs.line.members.Tie as tie
 

@@ -3,7 +3,7 @@
 use Prim.Native.Nat.{_-_, _≤_, _<_}
 use mathlib.Core.Logic.{⊎-elim}
 use native.Mathlib.Omega.{arith}
-use Rattle.columns.specs.Columns.{shape, delayAt}
+use Rattle.columns.specs.Columns.{shape}
 use Rattle.search.specs.Climbing.{walk-of}
 use Rattle.search.specs.Above.{Bidding, bidding-start, bidding-skip, bidding-bids, bidding-on}
 use Rattle.search.proofs.above.start.Statement.{statement}

@@ -1,6 +1,6 @@
 -- `order::append` meets its contract. The loop's invariant: what is left of the way, and what is listed, have room. The measure is what is left.
 -- Assumes nothing.
-use Prim.Native.Nat.{_-_, _≤_, _<_}
+use Prim.Native.Nat.{_-_, _≤_}
 use native.Mathlib.Omega.{arith}
 use Rattle.search.proofs.order.append.Statement.{statement}
 use Rattle.search.proofs.order.append.Tie as tie
