@@ -19,6 +19,8 @@ const ENOUGH: u64 = 3;
 
 pub struct Compare {
     pub seed: u64,
+    /// Which of how many threads this is.
+    share: (u64, u64),
     /// The part and number of the table at hand, for the print of a difference.
     pub at: (u64, u64),
     pub calls: u64,
@@ -30,14 +32,33 @@ pub struct Compare {
 }
 
 impl Compare {
-    pub fn new(seed: u64) -> Compare {
+    pub fn new(seed: u64, share: (u64, u64)) -> Compare {
         Compare {
             seed,
+            share,
             at: (0, 0),
             calls: 0,
             differing: 0,
             outcomes: [0; 12],
             pairs: [0; 6],
+        }
+    }
+
+    /// The numbers below `count` that fall to this thread.
+    pub fn mine(&self, count: u64) -> impl Iterator<Item = u64> {
+        let (which, of) = self.share;
+        (which..count).step_by(of as usize)
+    }
+
+    /// Counts what another thread compared.
+    pub fn add(&mut self, other: &Compare) {
+        self.calls += other.calls;
+        self.differing += other.differing;
+        for (count, more) in self.outcomes.iter_mut().zip(other.outcomes) {
+            *count += more;
+        }
+        for (count, more) in self.pairs.iter_mut().zip(other.pairs) {
+            *count += more;
         }
     }
 

@@ -13,6 +13,7 @@ mod outcome;
 mod product;
 mod safe;
 
+use std::thread;
 use std::time::Instant;
 
 use cases::Compare;
@@ -22,11 +23,14 @@ use reference::notation;
 use reference::rng::Rng;
 use reference::table::{Delay, Table};
 
+/// A thread's stack: as much as the first one has.
+const STACK: usize = 8 << 20;
+
 fn main() {
     let words: Vec<String> = std::env::args().skip(1).collect();
     if words.first().map_or(false, |word| word == "file") {
         let bytes = std::fs::read(&words[1]).expect("a rule file");
-        let mut compare = Compare::new(1);
+        let mut compare = Compare::new(1, (0, 1));
         compare.any_file(&bytes);
         finish(&compare);
         return;
@@ -39,8 +43,9 @@ fn main() {
 }
 
 fn run(small: u64, full: u64, seed: u64) {
-    println!("seed {seed}");
-    let mut compare = Compare::new(seed);
+    let of = thread::available_parallelism().map_or(1, |cores| cores.get() as u64);
+    println!("seed {seed}, {of} threads");
+    let mut shares: Vec<Compare> = (0..of).map(|k| Compare::new(seed, (k, of))).collect();
     let parts: [(&str, u64, fn(&mut Compare, u64)); 10] = [
         ("laps and files worked by hand", 1, worked),
         ("small tables", small, small_tables),
@@ -59,12 +64,21 @@ fn run(small: u64, full: u64, seed: u64) {
     ];
     for (name, count, part) in parts {
         let start = Instant::now();
-        part(&mut compare, count);
+        thread::scope(|scope| {
+            for share in &mut shares {
+                let thread = thread::Builder::new().stack_size(STACK);
+                thread
+                    .spawn_scoped(scope, move || part(share, count))
+                    .unwrap();
+            }
+        });
         let seconds = start.elapsed().as_secs_f64();
-        println!(
-            "{count:6} {name}: {} calls so far, {seconds:.1} s",
-            compare.calls
-        );
+        let calls: u64 = shares.iter().map(|share| share.calls).sum();
+        println!("{count:6} {name}: {calls} calls so far, {seconds:.1} s");
+    }
+    let mut compare = Compare::new(seed, (0, of));
+    for share in &shares {
+        compare.add(share);
     }
     finish(&compare);
 }
@@ -84,7 +98,10 @@ fn seeded(compare: &mut Compare, part: u64, k: u64) -> Rng {
 }
 
 /// P1 to P10, whatever the seed.
-fn worked(compare: &mut Compare, _count: u64) {
+fn worked(compare: &mut Compare, count: u64) {
+    if compare.mine(count).next().is_none() {
+        return;
+    }
     let tables = [
         "n 2: 0>1/0/3, 1>0/1/4",
         "n 2: 0>1/0/3, 1>0/2/4",
@@ -118,7 +135,7 @@ fn worked(compare: &mut Compare, _count: u64) {
 }
 
 fn small_tables(compare: &mut Compare, count: u64) {
-    for k in 0..count {
+    for k in compare.mine(count) {
         let mut rng = seeded(compare, 1, k);
         let table = gen::table(&mut rng, Size::SMALL);
         compare.table(&mut rng, &table);
@@ -129,7 +146,7 @@ fn small_tables(compare: &mut Compare, count: u64) {
 }
 
 fn faulty_tables(compare: &mut Compare, count: u64) {
-    for k in 0..count {
+    for k in compare.mine(count) {
         let mut rng = seeded(compare, 2, k);
         let size = if k % 50 == 0 { Size::FULL } else { Size::SMALL };
         let table = gen::damaged(&mut rng, size);
@@ -138,7 +155,7 @@ fn faulty_tables(compare: &mut Compare, count: u64) {
 }
 
 fn small_files(compare: &mut Compare, count: u64) {
-    for k in 0..count {
+    for k in compare.mine(count) {
         let mut rng = seeded(compare, 3, k);
         let bytes = gen::file(&mut rng, Size::SMALL);
         compare.file(&mut rng, &bytes);
@@ -147,7 +164,7 @@ fn small_files(compare: &mut Compare, count: u64) {
 }
 
 fn cut_files(compare: &mut Compare, count: u64) {
-    for k in 0..count {
+    for k in compare.mine(count) {
         let mut rng = seeded(compare, 4, k);
         let sound = gen::sound_file(&mut rng, Size::SMALL);
         for cut in gen::every_cut(&sound) {
@@ -158,7 +175,7 @@ fn cut_files(compare: &mut Compare, count: u64) {
 
 /// Too large to list loops, small enough for every call.
 fn middle_tables(compare: &mut Compare, count: u64) {
-    for k in 0..count {
+    for k in compare.mine(count) {
         let mut rng = seeded(compare, 7, k);
         let table = gen::table(&mut rng, Size::MIDDLE);
         compare.table(&mut rng, &table);
@@ -167,7 +184,7 @@ fn middle_tables(compare: &mut Compare, count: u64) {
 
 /// One in two with every transition and rule that the limits allow.
 fn full_tables(compare: &mut Compare, count: u64) {
-    for k in 0..count {
+    for k in compare.mine(count) {
         let mut rng = seeded(compare, 5, k);
         let size = if k % 2 == 0 { Size::WHOLE } else { Size::FULL };
         let (_, maker) = gen::KINDS[k as usize % gen::KINDS.len()];
@@ -177,7 +194,7 @@ fn full_tables(compare: &mut Compare, count: u64) {
 }
 
 fn cut_longest(compare: &mut Compare, count: u64) {
-    for k in 0..count {
+    for k in compare.mine(count) {
         let mut rng = seeded(compare, 6, k);
         let sound = gen::longest_file(&mut rng);
         for end in 0..=sound.len() {
@@ -188,7 +205,7 @@ fn cut_longest(compare: &mut Compare, count: u64) {
 
 /// Sound and damaged ones, beside others, beside themselves, and beside ones that differ in a delay.
 fn small_pairs(compare: &mut Compare, count: u64) {
-    for k in 0..count {
+    for k in compare.mine(count) {
         let mut rng = seeded(compare, 8, k);
         let first = some_file(&mut rng);
         let second = match (rng.below(4), file::read(&first)) {
@@ -217,7 +234,7 @@ fn with_another_delay(rng: &mut Rng, mut table: Table) -> Table {
 
 /// A table and the same with one delay changed, so that ends are near each other or equal.
 fn full_pairs(compare: &mut Compare, count: u64) {
-    for k in 0..count {
+    for k in compare.mine(count) {
         let mut rng = seeded(compare, 9, k);
         let (_, maker) = gen::KINDS[k as usize % gen::KINDS.len()];
         let table = maker(&mut rng, Size::FULL);
