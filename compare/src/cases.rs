@@ -19,7 +19,7 @@ const ENOUGH: u64 = 3;
 
 pub struct Compare {
     pub seed: u64,
-    /// Which of how many threads this is.
+    /// Which of how many runs this is, that share the tables among them.
     share: (u64, u64),
     /// The part and number of the table at hand, for the print of a difference.
     pub at: (u64, u64),
@@ -44,22 +44,10 @@ impl Compare {
         }
     }
 
-    /// The numbers below `count` that fall to this thread.
+    /// The numbers below `count` that fall to this run.
     pub fn mine(&self, count: u64) -> impl Iterator<Item = u64> {
         let (which, of) = self.share;
         (which..count).step_by(of as usize)
-    }
-
-    /// Counts what another thread compared.
-    pub fn add(&mut self, other: &Compare) {
-        self.calls += other.calls;
-        self.differing += other.differing;
-        for (count, more) in self.outcomes.iter_mut().zip(other.outcomes) {
-            *count += more;
-        }
-        for (count, more) in self.pairs.iter_mut().zip(other.pairs) {
-            *count += more;
-        }
     }
 
     /// A kind of outcome that never came up was not compared at all.

@@ -3,8 +3,8 @@
 //! Every number of every result and every place of every lent buffer is compared. The first differences are
 //! printed with the file in hexadecimal, and the run ends with status 1.
 //!
-//!     compare [SMALL [FULL [SEED]]]     counts of tables, and the seed they are made from
-//!     compare file FILE                 one rule file
+//!     compare [SMALL [FULL [SEED [WHICH OF]]]]    counts of tables, the seed they are made from, and which share of them to take
+//!     compare file FILE                           one rule file
 
 mod calls;
 mod cases;
@@ -13,7 +13,6 @@ mod outcome;
 mod product;
 mod safe;
 
-use std::thread;
 use std::time::Instant;
 
 use cases::Compare;
@@ -22,9 +21,6 @@ use reference::gen::{self, Size};
 use reference::notation;
 use reference::rng::Rng;
 use reference::table::{Delay, Table};
-
-/// A thread's stack: as much as the first one has.
-const STACK: usize = 8 << 20;
 
 fn main() {
     let words: Vec<String> = std::env::args().skip(1).collect();
@@ -39,13 +35,13 @@ fn main() {
         Some(word) => word.parse().expect("a whole number"),
         None => usual,
     };
-    run(count(0, 50_000), count(1, 500), count(2, 20_260_101));
+    let share = (count(3, 0), count(4, 1));
+    run(count(0, 50_000), count(1, 500), count(2, 20_260_101), share);
 }
 
-fn run(small: u64, full: u64, seed: u64) {
-    let of = thread::available_parallelism().map_or(1, |cores| cores.get() as u64);
-    println!("seed {seed}, {of} threads");
-    let mut shares: Vec<Compare> = (0..of).map(|k| Compare::new(seed, (k, of))).collect();
+fn run(small: u64, full: u64, seed: u64, share: (u64, u64)) {
+    println!("seed {seed}, share {} of {}", share.0 + 1, share.1);
+    let mut compare = Compare::new(seed, share);
     let parts: [(&str, u64, fn(&mut Compare, u64)); 10] = [
         ("laps and files worked by hand", 1, worked),
         ("small tables", small, small_tables),
@@ -64,21 +60,12 @@ fn run(small: u64, full: u64, seed: u64) {
     ];
     for (name, count, part) in parts {
         let start = Instant::now();
-        thread::scope(|scope| {
-            for share in &mut shares {
-                let thread = thread::Builder::new().stack_size(STACK);
-                thread
-                    .spawn_scoped(scope, move || part(share, count))
-                    .unwrap();
-            }
-        });
+        part(&mut compare, count);
         let seconds = start.elapsed().as_secs_f64();
-        let calls: u64 = shares.iter().map(|share| share.calls).sum();
-        println!("{count:6} {name}: {calls} calls so far, {seconds:.1} s");
-    }
-    let mut compare = Compare::new(seed, (0, of));
-    for share in &shares {
-        compare.add(share);
+        println!(
+            "{count:6} {name}: {} calls so far, {seconds:.1} s",
+            compare.calls
+        );
     }
     finish(&compare);
 }

@@ -94,3 +94,22 @@ pub fn lay(t: Table) -> Columns
     c.blank = blank;
     c
 }
+
+// An element of a column is read through these: a cast of the element itself would ask for its bound.
+pub fn wide(x: u16) -> usize
+    ensures { λ r. ⌜ r ≡ x ⌝ }
+{
+    x as usize
+}
+
+pub fn wide_offset(x: u16) -> u64
+    ensures { λ r. ⌜ r ≡ x ⌝ }
+{
+    x as u64
+}
+
+pub fn wide_delay(x: u32) -> u64
+    ensures { λ r. ⌜ r ≡ x ⌝ }
+{
+    x as u64
+}

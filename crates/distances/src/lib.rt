@@ -8,6 +8,7 @@ ghost use Rattle.peel.specs.Plain.{plain};
 ghost use Rattle.peel.specs.Linked.{Linked};
 ghost use Rattle.distances.specs.Links.{SameSource, Before};
 ghost use Rattle.distances.specs.Queue.{Noted, Searching, Looking, Sought};
+use columns::wide;
 
 // How far each transition is from one of them, and how many were found; the others are FAR.
 pub struct Distances {
@@ -17,13 +18,6 @@ pub struct Distances {
 
 // No transition is as far as this.
 pub const FAR: usize = 512;
-
-// An element is read through these: a cast of the element itself would ask for its bound.
-fn wide(x: u16) -> usize
-    ensures { λ r. ⌜ r ≡ x ⌝ }
-{
-    x as usize
-}
 
 fn narrow(x: usize) -> u16
     requires { ⌜ x < 65536 ⌝ }

@@ -12,6 +12,9 @@ ghost use Rattle.distances.specs.Near.{awayFrom};
 ghost use Rattle.loops.specs.Listed.{Listed, Gathered, Within};
 ghost use Rattle.loops.specs.Ways.{Ways, followed};
 ghost use Rattle.loops.specs.Found.{numbers, Ready, FoundIn, FoundFirst};
+use columns::wide;
+use columns::wide_delay;
+use columns::wide_offset;
 
 // The rules of a kind, by number, lowest first.
 struct Kind {
@@ -24,25 +27,6 @@ pub struct Found {
     pub len: usize,
     pub at: usize,
     pub rules: [u16; 256],
-}
-
-// An element is read through these: a cast of the element itself would ask for its bound.
-fn wide(x: u16) -> usize
-    ensures { λ r. ⌜ r ≡ x ⌝ }
-{
-    x as usize
-}
-
-fn wide_offset(x: u16) -> u64
-    ensures { λ r. ⌜ r ≡ x ⌝ }
-{
-    x as u64
-}
-
-fn wide_delay(x: u32) -> u64
-    ensures { λ r. ⌜ r ≡ x ⌝ }
-{
-    x as u64
 }
 
 fn narrow(x: usize) -> u16

@@ -9,18 +9,12 @@ ghost use Rattle.columns.specs.Columns.{Limits};
 ghost use Rattle.peel.specs.Plain.{plain};
 ghost use Rattle.peel.specs.Linked.{Linked, NoneAlike, Row};
 ghost use Rattle.peel.specs.Peeling.{Tallied, Waiting, Lessened, Spread, StruckNext, Stripped, Peeled};
+use columns::wide;
 
 // The transitions that remain (1) and those struck (0), and how many were struck.
 pub struct Remnant {
     pub alive: [u8; 256],
     pub count: usize,
-}
-
-// An element is read through this: a cast of the element itself would ask for its bound.
-fn wide(x: u16) -> usize
-    ensures { λ r. ⌜ r ≡ x ⌝ }
-{
-    x as usize
 }
 
 fn narrow(x: usize) -> u16

@@ -8,13 +8,7 @@ ghost use Rattle.rates.specs.Rate.{RatedTo};
 ghost use Rattle.rates.specs.Reach.{Counts, Taken};
 use crate::Rated;
 use crate::ends;
-
-// An element is read through this: a cast of the element itself would ask for its bound.
-fn wide(x: u16) -> usize
-    ensures { λ r. ⌜ r ≡ x ⌝ }
-{
-    x as usize
-}
+use columns::wide;
 
 // 1 where a rule into t is one of them, else 0: t reaches v where it is v itself, or some number of rules from it.
 fn counts(t: usize, v: usize, dist: u16) -> usize

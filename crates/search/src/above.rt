@@ -7,18 +7,13 @@ ghost use Rattle.columns.specs.Columns.{shape, delayAt, Limits, Short};
 ghost use Rattle.search.specs.Search.{Started};
 ghost use Rattle.search.specs.Above.{lift, Bids, Bid};
 use crate::scan::Met;
+use columns::wide;
 
 // The ratio tried, for 1 turn: 256 delays of 1,000,000.
 const TURN: u64 = 256000000;
 
 // Values are kept 15 turns higher than they are, so that none is below 0.
 const LIFT: u64 = 3840000000;
-
-fn wide(x: u16) -> usize
-    ensures { λ r. ⌜ r ≡ x ⌝ }
-{
-    x as usize
-}
 
 // What a transition has: at least 0.
 fn lifted(value: u64) -> u64

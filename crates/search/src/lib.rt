@@ -14,12 +14,7 @@ ghost use Rattle.theory.specs.Ratio.{IsGcd};
 ghost use Rattle.columns.specs.Columns.{shape, delayAt, Limits, Short};
 ghost use Rattle.search.specs.Search.{Settled, Reached};
 ghost use Rattle.search.specs.Climbing.{Asks, Risen, Query, Ready, Ended, Carried, Quotient};
-
-fn wide(x: u16) -> usize
-    ensures { λ r. ⌜ r ≡ x ⌝ }
-{
-    x as usize
-}
+use columns::wide;
 
 // Rule i, from s to t with offset e and delay a, raises its target to what it asks at p/q, and is then its parent.
 fn raise(

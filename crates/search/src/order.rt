@@ -5,6 +5,7 @@ ghost use Prim.Native.Nat.{ℕ, _≤_, _<_};
 ghost use lib.ListN.{getD};
 ghost use Rattle.columns.specs.Columns.{Limits};
 ghost use Rattle.search.specs.Order.{Most, Queued};
+use columns::wide;
 
 // The rules that leave each transition, linked: `first` and `next` hold 1 more than a rule's number, and 0 for none.
 // `waits` counts the rules of offset 0 that enter each.
@@ -25,13 +26,6 @@ struct Queue {
 struct Counts {
     len: usize,
     end: usize,
-}
-
-// An element is read through these: a cast of the element itself would ask for its bound.
-fn wide(x: u16) -> usize
-    ensures { λ r. ⌜ r ≡ x ⌝ }
-{
-    x as usize
 }
 
 fn narrow(x: usize) -> u16

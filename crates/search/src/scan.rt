@@ -1,33 +1,16 @@
 // Follows parents back from each transition: to one without a parent, to one that was passed before, or round.
-ghost use mathlib.Core.Path.{_≡_};
 ghost use Rattle.columns.specs.Columns.{shape, delayAt, Limits, Short};
 ghost use Rattle.search.specs.Search.{Valid, Scanned};
 ghost use Rattle.search.specs.Scan.{Fresh, Walked, Low, Kept};
+use columns::wide;
+use columns::wide_delay;
+use columns::wide_offset;
 
 // A closed walk of parents by its sums, where one was found.
 pub struct Met {
     pub found: bool,
     pub delays: u64,
     pub offsets: u64,
-}
-
-// An element is read through these: a cast of the element itself would ask for its bound.
-fn wide(x: u16) -> usize
-    ensures { λ r. ⌜ r ≡ x ⌝ }
-{
-    x as usize
-}
-
-fn wide_delay(x: u32) -> u64
-    ensures { λ r. ⌜ r ≡ x ⌝ }
-{
-    x as u64
-}
-
-fn wide_offset(x: u16) -> u64
-    ensures { λ r. ⌜ r ≡ x ⌝ }
-{
-    x as u64
 }
 
 // Follows parents back from one transition, and leaves its number and the sums so far at each that it passes.

@@ -5,17 +5,9 @@ mod order;
 mod rows;
 mod times;
 
-ghost use mathlib.Core.Path.{_≡_};
 ghost use Rattle.simulation.specs.Simulation.{SimulationOf};
 ghost use Rattle.simulation.specs.Refusals.{Judgement};
 use table::Table;
-
-// A cast of an element wants a function of its own to be proved without a file.
-fn wide(x: u16) -> usize
-    ensures { λ r. ⌜ r ≡ x ⌝ }
-{
-    x as usize
-}
 
 // 0 and 0, or a number of refusal and its place.
 pub struct Simulated {

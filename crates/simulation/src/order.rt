@@ -5,7 +5,7 @@ ghost use Prim.Native.Nat.{ℕ, _+_, _≤_, _<_};
 ghost use lib.ListN.{getD, set};
 ghost use Rattle.simulation.specs.Groups.{Bounded};
 ghost use Rattle.simulation.specs.Order.{Ready, Found, Ranked, Complete};
-use crate::wide;
+use columns::wide;
 
 // Whether each rule of offset 0 at the places from `from` to `to` has a source that is done.
 fn ready(

@@ -2,7 +2,7 @@
 ghost use Prim.Native.Nat.{_+_, _-_, _*_, _≤_, _<_};
 ghost use lib.ListN.{length};
 ghost use Rattle.simulation.specs.Rows.{Asks, Larger, AsksAll, Pulled, Plan, Done, Row, Rows};
-use crate::wide;
+use columns::wide;
 
 // The larger of `best` and the time that a rule from s with offset e and delay a asks for, if it acts.
 fn larger(best: u64, i: usize, n: usize, s: u16, e: u16, a: u32, times: &[u64]) -> u64

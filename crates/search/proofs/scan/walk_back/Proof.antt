@@ -8,9 +8,9 @@ use Rattle.search.proofs.scan.walk_back.Statement.{statement}
 use Rattle.search.proofs.scan.walk_back.Tie as tie
 use Rattle.search.proofs.scan.walk_back.Reads as reads
 use Rattle.search.proofs.scan.walk_back.Lts as lts
-use Rattle.search.proofs.scan.wide.Reads as wide-reads
-use Rattle.search.proofs.scan.wide_delay.Reads as wide-delay-reads
-use Rattle.search.proofs.scan.wide_offset.Reads as wide-offset-reads
+use Rattle.columns.proofs.wide.Reads as wide-reads
+use Rattle.columns.proofs.wide_delay.Reads as wide-delay-reads
+use Rattle.columns.proofs.wide_offset.Reads as wide-offset-reads
 
 abbrev Inv-loop : tie.InvT-loop
 Inv-loop source target offset delay m n par from number stamp₀ delays₀ offsets₀ v₀ a₀ e₀ stamp delays offsets v a e =
