@@ -4,7 +4,7 @@
 --   WideAt S K a        == the case of refusal 11: a sum is 2^63 or more, with every delay at its least at the low end, or at its greatest at the high end
 --   Judges t v          == v is the verdict on the table t
 --
--- Theorems: proper (every rule may have some delay), never-wide-at (refusal 11 never comes), verdict-exists, verdict-unique.
+-- Theorems: proper (every rule may have some delay), range-never-wide, never-wide-at (refusal 11 never comes), verdict-exists, verdict-unique.
 use mathlib.Core.Path.{_≡_, refl, ap}
 use mathlib.Core.Logic.{_⊎_, ⊎-elim}
 use Prim.Native.Nat.{ℕ, _≤_, _<_, _^_}
@@ -13,13 +13,16 @@ use lib.ListN.{getD}
 use Rattle.model.specs.Shape.{Shape}
 use Rattle.model.specs.Loop.{SomeLoop, NoLoop, Live}
 use Rattle.model.specs.Knot.{Knot}
-use Rattle.model.specs.Filling.{Ranges, Filling}
+use Rattle.model.specs.Ratio.{Lowest}
+use Rattle.model.specs.Period.{Period}
+use Rattle.model.specs.Filling.{Ranges}
+use Rattle.model.specs.Ends.{Measure, Attained, Range, RangeOf}
 use Rattle.model.specs.Wide.{WideSum}
 use Rattle.model.specs.Answer.{Answer, Answers}
 use Rattle.theory.specs.Filling.{Proper, ranges-proper}
 use Rattle.theory.specs.Knot.{knot-unique, knot-not-live, knot-or-live, loop-or-none}
 use Rattle.theory.specs.Answer.{answer-unique, answer-exists}
-use Rattle.theory.specs.Wide.{never-wide}
+use Rattle.theory.specs.Wide.{period-limits, small-not-wide}
 use Rattle.table.specs.declared.Table.{Table}
 use Rattle.table.specs.Limits.{maxOffset, maxDelay}
 use Rattle.table.specs.Form.{unusedRule}
@@ -33,34 +36,37 @@ pub data Verdict : Type 0 where
   wide : Verdict
   found : Answer → Verdict
 
-abbrev pub WideAt : Shape → Ranges → Answer → Type 0
-WideAt S K a = WideSum (2 ^ 63) S K.least (a .ends .lowP) (a .ends .lowQ) ⊎ WideSum (2 ^ 63) S K.greatest (a .ends .highP) (a .ends .highQ)
+abbrev pub WideAt : Shape → Ranges → Range → Type 0
+WideAt S K a = WideSum (2 ^ 63) S K.least (a .lowP) (a .lowQ) ⊎ WideSum (2 ^ 63) S K.greatest (a .highP) (a .highQ)
 
 abbrev pub Judges : Table → Verdict → Type 0
 Judges t (outside k) = FirstBad t k
 Judges t (knotted u) = Within t × Knot (shapeOf t) u
 Judges t flat = Within t × Live (shapeOf t) × NoLoop (shapeOf t)
-Judges t wide = Within t × Live (shapeOf t) × ((a : Answer) × Answers (shapeOf t) (rangesOf t) (t .n) a × WideAt (shapeOf t) (rangesOf t) a)
-Judges t (found a) = Within t × Live (shapeOf t) × Answers (shapeOf t) (rangesOf t) (t .n) a × (¬ (WideAt (shapeOf t) (rangesOf t) a))
+Judges t wide = Within t × Live (shapeOf t) × ((a : Answer) × Answers (shapeOf t) (rangesOf t) (t .n) a × WideAt (shapeOf t) (rangesOf t) (a .ends))
+Judges t (found a) = Within t × Live (shapeOf t) × Answers (shapeOf t) (rangesOf t) (t .n) a × (¬ (WideAt (shapeOf t) (rangesOf t) (a .ends)))
 
 -- every rule may have some delay
 pub proper : (t : Table) → Proper (shapeOf t) (rangesOf t)
 proper t = ranges-proper (shapeOf t) maxDelay (λ r. delayOf (getD (used t) r unusedRule .delay))
 
--- NEVER WIDE
-pub never-wide-at : (t : Table) → Within t → (a : Answer) → Answers (shapeOf t) (rangesOf t) (t .n) a → ¬ (WideAt (shapeOf t) (rangesOf t) a)
-never-wide-at t w a x =
+-- NEVER WIDE, whatever is measured, if no filling gives more than a period can be
+pub range-never-wide : (t : Table) → Within t → (M : Measure) → ((D : ℕ → ℕ) → ((r : ℕ) → r < t .m → D r ≤ 1000000) → (P Q : ℕ) → M D P Q → Lowest P Q → (P ≤ 256000000) × (Q ≤ 3840)) → (a : Range)
+    → RangeOf (shapeOf t) (rangesOf t) M a → ¬ (WideAt (shapeOf t) (rangesOf t) a)
+range-never-wide t w M small a x =
     ⊎-elim
-    (never-wide (shapeOf t) (rangesOf t .least) (x .ends .low .attained .D) (t .n) (a .ends .lowP) (a .ends .lowQ) (w .n-high) (within-fits t w) (within-offsets t w) least
-    (below (x .ends .low .attained .D) (x .ends .low .attained .fills)) (x .ends .low .attained .given) (x .ends .low .attained .lowest))
-    (never-wide (shapeOf t) (rangesOf t .greatest) (x .ends .high .attained .D) (t .n) (a .ends .highP) (a .ends .highQ) (w .n-high) (within-fits t w) (within-offsets t w) (within-delays t w)
-    (below (x .ends .high .attained .D) (x .ends .high .attained .fills)) (x .ends .high .attained .given) (x .ends .high .attained .lowest))
+    (small-not-wide (shapeOf t) (rangesOf t .least) (t .n) (a .lowP) (a .lowQ) (w .n-high) (within-fits t w) (within-offsets t w) least (given (x .low .attained)))
+    (small-not-wide (shapeOf t) (rangesOf t .greatest) (t .n) (a .highP) (a .highQ) (w .n-high) (within-fits t w) (within-offsets t w) (within-delays t w) (given (x .high .attained)))
   where
     least : (r : ℕ) → r < t .m → rangesOf t .least r ≤ 1000000
     least r b = omega (arith, within-delays t w r b, proper t r b)
 
-    below : (D : ℕ → ℕ) → Filling (shapeOf t) (rangesOf t) D → (r : ℕ) → r < t .m → D r ≤ 1000000
-    below D f r b = omega (arith, f r b, within-delays t w r b)
+    given : {P Q : ℕ} → Attained (shapeOf t) (rangesOf t) M P Q → (P ≤ 256000000) × (Q ≤ 3840)
+    given y = small (y .D) (λ r b. omega (arith, y .fills r b, within-delays t w r b)) _ _ (y .given) (y .lowest)
+
+pub never-wide-at : (t : Table) → Within t → (a : Answer) → Answers (shapeOf t) (rangesOf t) (t .n) a → ¬ (WideAt (shapeOf t) (rangesOf t) (a .ends))
+never-wide-at t w a x =
+    range-never-wide t w (Period (shapeOf t)) (λ D d P Q. period-limits (shapeOf t) D (t .n) P Q (w .n-high) (within-fits t w) (within-offsets t w) d) (a .ends) (x .ends)
 
 -- THERE IS A VERDICT
 pub verdict-exists : (t : Table) → (v : Verdict) × Judges t v

@@ -2,7 +2,6 @@
 --
 --   RateVerdict             == a field is outside the limits; the transition is none of the table's; a loop has no turn; no loop reaches the transition;
 --                              a sum is too wide; or the range of its rate
---   WideRate S K a          == a sum is too wide: with every delay at its least at the low end, or at its greatest at the high end
 --   JudgesRate t v x        == x is the verdict on the rate of transition v of the table t
 --   refusedRate f p       == refused with number f at place p: all else 0
 --   ratedOf n x            == what is handed back for the verdict x, where n is the table's: numbers of refusal are the paper's
@@ -13,7 +12,7 @@ use mathlib.Core.Path.{_≡_, refl, sym, ap, _∙_, subst}
 use mathlib.Core.Bool.{Bool, true, false, true≢false, false≢true}
 use mathlib.Core.Logic.{_≢_, _⊎_, inl, inr, ⊎-elim, by-cases}
 use mathlib.Core.List.{List}
-use Prim.Native.Nat.{ℕ, _≤_, _<_, _^_}
+use Prim.Native.Nat.{ℕ, _≤_, _<_}
 use native.Mathlib.Omega.{arith}
 use native.Mathlib.Decide.{decLt}
 use lib.ListN.{getD, take}
@@ -21,8 +20,7 @@ use Rattle.model.specs.Shape.{Shape, Fits}
 use Rattle.model.specs.Loop.{SomeLoop, NoLoop, Live}
 use Rattle.model.specs.Knot.{Knot}
 use Rattle.model.specs.Ratio.{Lowest}
-use Rattle.model.specs.Filling.{Ranges, Filling}
-use Rattle.model.specs.Wide.{WideSum}
+use Rattle.model.specs.Filling.{Ranges}
 use Rattle.model.specs.Period.{Period}
 use Rattle.model.specs.Ends.{Exact, Range}
 use Rattle.model.specs.Rate.{SomeLoopTo, NoLoopTo, Rate, Rates}
@@ -30,7 +28,7 @@ use Rattle.theory.specs.Knot.{knot-unique, knot-not-live, knot-or-live, loop-or
 use Rattle.theory.specs.Schedule.{TightRule}
 use Rattle.theory.specs.Climb.{climbed-period, climbed-none}
 use Rattle.theory.specs.Same.{period-same}
-use Rattle.theory.specs.Wide.{period-limits, small-not-wide}
+use Rattle.theory.specs.Wide.{period-limits}
 use Rattle.theory.specs.Ends.{range-is}
 use Rattle.theory.specs.Rate.{steered, steering, rate-steered, rate-plain, none-plain, some-plain, fits-steered, rate-steady, rates-unique, rates-exist}
 use Rattle.theory.specs.Gather.{Gathers, none-gathered, rate-gathered}
@@ -43,7 +41,7 @@ use Rattle.columns.specs.Columns.{shape}
 use Rattle.loops.specs.Found.{FoundFirst}
 use Rattle.columns.specs.Lay.{Laid, laid-shape, laid-least, laid-greatest}
 use Rattle.search.specs.Search.{Reached}
-use Rattle.engine.specs.Verdict.{proper}
+use Rattle.engine.specs.Verdict.{WideAt, proper, range-never-wide}
 use Rattle.engine.specs.Lap.{rangesIn, ends-live}
 
 pub data RateVerdict : Type 0 where
@@ -54,17 +52,14 @@ pub data RateVerdict : Type 0 where
   too-wide : RateVerdict
   rated : Range → RateVerdict
 
-abbrev pub WideRate : Shape → Ranges → Range → Type 0
-WideRate S K a = WideSum (2 ^ 63) S K.least (a .lowP) (a .lowQ) ⊎ WideSum (2 ^ 63) S K.greatest (a .highP) (a .highQ)
-
 -- each case in the paper's order: what is judged later asks that nothing before it was met
 abbrev pub JudgesRate : Table → ℕ → RateVerdict → Type 0
 JudgesRate t v (bad-field k) = FirstBad t k
 JudgesRate t v no-name = Within t × (t .n ≤ v)
 JudgesRate t v (knot-at u) = Within t × (v < t .n) × Knot (shapeOf t) u
 JudgesRate t v unreached = Within t × (v < t .n) × Live (shapeOf t) × NoLoopTo (shapeOf t) v
-JudgesRate t v too-wide = Within t × (v < t .n) × Live (shapeOf t) × ((a : Range) × Rates (shapeOf t) (rangesOf t) v a × WideRate (shapeOf t) (rangesOf t) a)
-JudgesRate t v (rated a) = Within t × (v < t .n) × Live (shapeOf t) × Rates (shapeOf t) (rangesOf t) v a × (¬ (WideRate (shapeOf t) (rangesOf t) a))
+JudgesRate t v too-wide = Within t × (v < t .n) × Live (shapeOf t) × ((a : Range) × Rates (shapeOf t) (rangesOf t) v a × WideAt (shapeOf t) (rangesOf t) a)
+JudgesRate t v (rated a) = Within t × (v < t .n) × Live (shapeOf t) × Rates (shapeOf t) (rangesOf t) v a × (¬ (WideAt (shapeOf t) (rangesOf t) a))
 
 abbrev pub refusedRate : ℕ → ℕ → Rated
 refusedRate f p = record { refusal = f; place = p; exact = false; low = record { p = 0; q = 0 }; high = record { p = 0; q = 0 } }
@@ -88,22 +83,13 @@ pub record RateOf (t : Table) (v : ℕ) (r : Rated) : Type 0 where
 -- ------------------------------------------------------------------------------------------------------------------------- one verdict, and there
 
 -- NEVER WIDE: the rate is the period of the steered rules, which have the same offsets and delays
-pub rate-never-wide : (t : Table) → Within t → (v : ℕ) → v < t .n → (a : Range) → Rates (shapeOf t) (rangesOf t) v a → ¬ (WideRate (shapeOf t) (rangesOf t) a)
+pub rate-never-wide : (t : Table) → Within t → (v : ℕ) → v < t .n → (a : Range) → Rates (shapeOf t) (rangesOf t) v a → ¬ (WideAt (shapeOf t) (rangesOf t) a)
 rate-never-wide t w v b a x =
-    ⊎-elim
-    (small-not-wide (shapeOf t) (rangesOf t .least) (t .n) (a .lowP) (a .lowQ) (w .n-high) (within-fits t w) (within-offsets t w) least
-    (small (x .low .attained .D) (x .low .attained .fills) (a .lowP) (a .lowQ) (x .low .attained .given) (x .low .attained .lowest)))
-    (small-not-wide (shapeOf t) (rangesOf t .greatest) (t .n) (a .highP) (a .highQ) (w .n-high) (within-fits t w) (within-offsets t w) (within-delays t w)
-    (small (x .high .attained .D) (x .high .attained .fills) (a .highP) (a .highQ) (x .high .attained .given) (x .high .attained .lowest)))
-  where
-    least : (r : ℕ) → r < t .m → rangesOf t .least r ≤ 1000000
-    least r b = omega (arith, within-delays t w r b, proper t r b)
-
-    small : (D : ℕ → ℕ) → Filling (shapeOf t) (rangesOf t) D → (P Q : ℕ) → Rate (shapeOf t) D v P Q → Lowest P Q → (P ≤ 256000000) × (Q ≤ 3840)
-    small D fills P Q rate low =
-        let (f, s) = steering (shapeOf t) (t .n) (within-fits t w) v in
-        period-limits (steered (shapeOf t) f) D (t .n) P Q (w .n-high) (fits-steered (shapeOf t) v f s (t .n) b (within-fits t w)) (within-offsets t w)
-        (λ r l. omega (arith, fills r l, within-delays t w r l)) (rate-steered (shapeOf t) v f s D P Q rate) low
+    let fits = within-fits t w in
+    let (f, s) = steering (shapeOf t) (t .n) fits v in
+    range-never-wide t w (λ D. Rate (shapeOf t) D v)
+    (λ D d P Q p. period-limits (steered (shapeOf t) f) D (t .n) P Q (w .n-high) (fits-steered (shapeOf t) v f s (t .n) b fits) (within-offsets t w) d (rate-steered (shapeOf t) v f s D P Q p))
+    a x
 
 -- THERE IS A VERDICT
 pub rate-verdict-exists : (t : Table) (v : ℕ) → (x : RateVerdict) × JudgesRate t v x

@@ -2,7 +2,6 @@
 --
 --   period-limits     P and Q of a period in lowest terms are small
 --   small-not-wide    at such P/Q no sum over a loop or a path is wide
---   never-wide        with delays D, at the period with delays E in lowest terms
 use mathlib.Core.Logic.{⊎-elim}
 use Prim.Native.Nat.{ℕ, _*_, _≤_, _<_, _^_}
 use native.Mathlib.Omega.{arith}
@@ -51,7 +50,3 @@ small-not-wide S D n P Q few fits o d small x =
 
     po : P * offsets S (x .rs) ≤ 256000000 * 3840
     po = mul-le-mul (small .0) o1
-
-pub never-wide : (S : Shape) (D E : ℕ → ℕ) (n P Q : ℕ) → n ≤ 256 → Fits S n → ((r : ℕ) → r < S.rules → S.offset r ≤ 15) → ((r : ℕ) → r < S.rules → D r ≤ 1000000)
-    → ((r : ℕ) → r < S.rules → E r ≤ 1000000) → Period S E P Q → Lowest P Q → ¬ (WideSum (2 ^ 63) S D P Q)
-never-wide S D E n P Q few fits o d d′ p low = small-not-wide S D n P Q few fits o d (period-limits S E n P Q few fits o d′ p low)
