@@ -12,6 +12,6 @@ echo "|---|---|---|---|---|---|---|"
 for crate in $(sed -n 's/^\([a-z_]*\):.*/\1/p' crates.txt); do
     proved=$(sed -n "s/^rt: $crate proved (\([0-9]*\) s).*/\1/p" "$log" | tail -n 1)
     edits=$(grep -c "^rt: must-fail $crate/.*refused" "$log" || true)
-    each=$(sed -n "s/^rt: must-fail $crate\/.*[; (]\([0-9]*\) s)$/\1/p" "$log" | sort -n | sed -n '1p;$p' | paste -sd- -)
+    each=$(sed -n "s/^rt: must-fail $crate\/.*[; (]\([0-9]*\) s)$/\1/p" "$log" | sort -n | sed -n '1p;$p' | uniq | paste -sd- -)
     echo "| \`$crate\` | $proved | $(lines "$crate" src rt) | $(lines "$crate" specs antt) | $(lines "$crate" proofs antt) | $edits | $each |"
 done
