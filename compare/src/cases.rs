@@ -47,7 +47,7 @@ impl Compare {
     /// The numbers below `count` that fall to this run.
     pub fn mine(&self, count: u64) -> impl Iterator<Item = u64> {
         let (which, of) = self.share;
-        (which..count).step_by(of as usize)
+        count * which / of..count * (which + 1) / of
     }
 
     /// A kind of outcome that never came up was not compared at all.
