@@ -3,8 +3,8 @@
 //! Every number of every result and every place of every lent buffer is compared. The first differences are
 //! printed with the file in hexadecimal, and the run ends with status 1.
 //!
-//!     compare [SMALL [FULL [SEED [WHICH OF]]]]    counts of tables, the seed they are made from, and which share of them to take
-//!     compare file FILE                           one rule file
+//!     compare [share K OF] [SMALL [FULL [SEED]]]    counts of tables, and the seed they are made from; of OF shares, from 0 on, the K-th
+//!     compare file FILE                             one rule file
 
 mod calls;
 mod cases;
@@ -35,8 +35,16 @@ fn main() {
         Some(word) => word.parse().expect("a whole number"),
         None => usual,
     };
-    let share = (count(3, 0), count(4, 1));
-    run(count(0, 50_000), count(1, 500), count(2, 20_260_101), share);
+    let (share, at) = match words.first().map_or(false, |word| word == "share") {
+        true => ((count(1, 0), count(2, 1)), 3),
+        false => ((0, 1), 0),
+    };
+    run(
+        count(at, 50_000),
+        count(at + 1, 500),
+        count(at + 2, 20_260_101),
+        share,
+    );
 }
 
 fn run(small: u64, full: u64, seed: u64, share: (u64, u64)) {
