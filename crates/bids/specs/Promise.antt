@@ -1,7 +1,7 @@
 -- Two rule files side by side, and the better of the two. To be read beside document 02, ticket 1.
 --
---   refusedBid f p, answeredBid a   what is known of a bid: refused with number f at place p, and all else 0; or the two ends of the answer a
---   judgedBid v                     the same for the verdict v on its table: numbers of refusal are the paper's
+--   refused_bid f p, answered_bid a   what is known of a bid: refused with number f at place p, and all else 0; or the two ends of the answer a
+--   judged_bid v                     the same for the verdict v on its table: numbers of refusal are the paper's
 --   TableBid t b, ReadBid g b       b is what is known of a bid with the table t; of one of which g was read
 --   BidOf s b                       THE PROMISE of `ends`: b is what is known of the bid with the bytes s
 --   choice_of a b                    the better of two bids; at equal high ends the first; neither, where neither can be analysed
@@ -12,7 +12,7 @@
 --                                   file, 0 or 1, a refusal f and its place p
 --   BetterOf x y r w f p            THE PROMISE of `better`
 --
--- Theorems: bid-unique, laid-unique, better-unique (one outcome each); bid-first (the first bytes of a file decide).
+-- Theorems: bid_unique, laid_unique, better_unique (one outcome each); bid_first (the first bytes of a file decide).
 use Rattle.std.specs.Prelude.{◌≡◌, Bool, false, List, [], ℕ, ◌+◌, ◌*◌, ◌≤◌, ◌<◌, ltb, take}
 use Rattle.std.proofs.Common.{sym, ap, ◌∙◌, subst, arith}
 use Rattle.std.proofs.Math.Logic.{by_cases}
@@ -24,8 +24,8 @@ use Rattle.table.specs.declared.Table.{Table}
 use Rattle.rulefile.specs.declared.FileRead.{FileRead}
 use Rattle.rulefile.specs.File.{read_of}
 use Rattle.rulefile.specs.Length.{longest}
-use Rattle.rulefile.specs.First.{first-bytes}
-use Rattle.engine.specs.Verdict.{Verdict, outside, knotted, flat, wide, found, Judges, verdict-unique}
+use Rattle.rulefile.specs.First.{first_bytes}
+use Rattle.engine.specs.Verdict.{Verdict, outside, knotted, flat, wide, found, Judges, verdict_unique}
 use Rattle.bids.specs.declared.Ratio.{Ratio}
 use Rattle.bids.specs.declared.Bid.{Bid}
 use Rattle.bids.specs.declared.Choice.{Choice}
@@ -37,46 +37,46 @@ use Rattle.bids.specs.declared.Laid.{Laid}
 abbrev pub ratio : ℕ → ℕ → Ratio
 ratio p q = record { p = p; q = q }
 
-abbrev pub refusedBid : ℕ → ℕ → Bid
-refusedBid f p = record { refusal = f; place = p; exact = false; low = ratio 0 0; high = ratio 0 0 }
+abbrev pub refused_bid : ℕ → ℕ → Bid
+refused_bid f p = record { refusal = f; place = p; exact = false; low = ratio 0 0; high = ratio 0 0 }
 
-abbrev pub answeredBid : Answer → Bid
-answeredBid a = record { refusal = 0; place = 0; exact = a.ends.exact; low = ratio a.ends.lowP a.ends.lowQ; high = ratio a.ends.highP a.ends.highQ }
+abbrev pub answered_bid : Answer → Bid
+answered_bid a = record { refusal = 0; place = 0; exact = a.ends.exact; low = ratio a.ends.low_p a.ends.low_q; high = ratio a.ends.high_p a.ends.high_q }
 
 -- no buffer is lent, so the verdict decides: 3, then 5, 6, 11. Of a table that was read 3 never comes: it is within the limits.
-abbrev pub judgedBid : Verdict → Bid
-judgedBid (outside k) = refusedBid 3 k
-judgedBid (knotted u) = refusedBid 5 u
-judgedBid flat = refusedBid 6 0
-judgedBid wide = refusedBid 11 0
-judgedBid (found a) = answeredBid a
+abbrev pub judged_bid : Verdict → Bid
+judged_bid (outside k) = refused_bid 3 k
+judged_bid (knotted u) = refused_bid 5 u
+judged_bid flat = refused_bid 6 0
+judged_bid wide = refused_bid 11 0
+judged_bid (found a) = answered_bid a
 
 pub record TableBid (t : Table) (b : Bid) : Type 0 where
   pub verdict : Verdict
   pub judged : Judges t verdict
-  pub result : b ≡ judgedBid verdict
+  pub result : b ≡ judged_bid verdict
 
 -- a refusal of reading comes before those of analysis
 pub record ReadBid (g : FileRead) (b : Bid) : Type 0 where
-  pub refused : 0 < g.refusal → b ≡ refusedBid g.refusal g.place
+  pub refused : 0 < g.refusal → b ≡ refused_bid g.refusal g.place
   pub accepted : g.refusal ≤ 0 → TableBid g.table b
 
 abbrev pub BidOf : List ℕ → Bid → Type 0
 BidOf s b = ReadBid (read_of s) b
 
 -- ONLY ONE OUTCOME
-pub bid-unique : (s : List ℕ) (a b : Bid) → BidOf s a → BidOf s b → a ≡ b
-bid-unique s a b x y =
+pub bid_unique : (s : List ℕ) (a b : Bid) → BidOf s a → BidOf s b → a ≡ b
+bid_unique s a b x y =
     by_cases (dec_lt 0 (read_of s).refusal)
     (λ l. x.refused l ∙ sym (y.refused l))
     (λ l.
     let p = x.accepted (omega arith) in
     let q = y.accepted (omega arith) in
-    p.result ∙ ap judgedBid (verdict-unique (read_of s).table p.verdict q.verdict p.judged q.judged) ∙ sym q.result)
+    p.result ∙ ap judged_bid (verdict_unique (read_of s).table p.verdict q.verdict p.judged q.judged) ∙ sym q.result)
 
 -- THE FIRST BYTES DECIDE: what is known from `longest + 1` bytes of a file, or more, is what is known from the whole file
-pub bid-first : (s : List ℕ) (k : ℕ) → Bytes s → longest + 1 ≤ k → (b : Bid) → BidOf (take k s) b → BidOf s b
-bid-first s k is h b a = subst (λ (g : FileRead). ReadBid g b) (first-bytes s k is h) a
+pub bid_first : (s : List ℕ) (k : ℕ) → Bytes s → longest + 1 ≤ k → (b : Bid) → BidOf (take k s) b → BidOf s b
+bid_first s k is h b a = subst (λ (g : FileRead). ReadBid g b) (first_bytes s k is h) a
 
 -- ------------------------------------------------------------------------------------------------------------------------------- the better one
 
@@ -97,10 +97,10 @@ pub record LaidOf (s t : List ℕ) (l : Laid) : Type 0 where
   pub choice : l.choice ≡ choice_of l.first l.second
 
 -- ONLY ONE OUTCOME
-pub laid-unique : (s t : List ℕ) (l m : Laid) → LaidOf s t l → LaidOf s t m → l ≡ m
-laid-unique s t l m x y =
-    let e = bid-unique s l.first m.first x.first y.first in
-    let f = bid-unique t l.second m.second x.second y.second in
+pub laid_unique : (s t : List ℕ) (l m : Laid) → LaidOf s t l → LaidOf s t m → l ≡ m
+laid_unique s t l m x y =
+    let e = bid_unique s l.first m.first x.first y.first in
+    let f = bid_unique t l.second m.second x.second y.second in
     let g : l.choice ≡ m.choice = x.choice ∙ ap (λ a. choice_of a l.second) e ∙ ap (choice_of m.first) f ∙ sym y.choice in
     same l m e f g
   where
@@ -125,8 +125,8 @@ Handed Second a x y r w f p = Chosen y 1 r w f p
 pub record BetterOf (x y r : File) (w f p : ℕ) : Type 0 where
   pub first : Bid
   pub second : Bid
-  pub is-first : BidOf x.now first
-  pub is-second : BidOf y.now second
+  pub is_first : BidOf x.now first
+  pub is_second : BidOf y.now second
   pub handed : Handed (choice_of first second) first x y r w f p
 
 -- a part is where it lies and the bytes that stand there
@@ -137,22 +137,22 @@ pub record Same (r r' : File) (w w' f f' p p' : ℕ) : Type 0 where
   pub refusal : f ≡ f'
   pub place : p ≡ p'
 
-chosen-same : (z : File) (u : ℕ) (r r' : File) (w w' f f' p p' : ℕ) → Chosen z u r w f p → Chosen z u r' w' f' p' → Same r r' w w' f f' p p'
-chosen-same z u r r' w w' f f' p p' h k =
+chosen_same : (z : File) (u : ℕ) (r r' : File) (w w' f f' p p' : ℕ) → Chosen z u r w f p → Chosen z u r' w' f' p' → Same r r' w w' f f' p p'
+chosen_same z u r r' w w' f f' p p' h k =
     let e = h.0 ∙ sym k.0 in
     record { place_of = ap (λ (z : File). z.ref_ptr) e; bytes = ap (λ (z : File). z.now) e; which = h.1 ∙ sym k.1; refusal = h.2 ∙ sym k.2; place = h.3 ∙ sym k.3 }
 
-handed-same : (c : Choice) (a : Bid) (x y r r' : File) (w w' f f' p p' : ℕ) → Handed c a x y r w f p → Handed c a x y r' w' f' p' → Same r r' w w' f f' p p'
-handed-same Neither a x y r r' w w' f f' p p' h k =
+handed_same : (c : Choice) (a : Bid) (x y r r' : File) (w w' f f' p p' : ℕ) → Handed c a x y r w f p → Handed c a x y r' w' f' p' → Same r r' w w' f f' p p'
+handed_same Neither a x y r r' w w' f f' p p' h k =
     record { place_of = h.1 ∙ sym k.1; bytes = h.0 ∙ sym k.0; which = h.2 ∙ sym k.2; refusal = h.3 ∙ sym k.3; place = h.4 ∙ sym k.4 }
-handed-same First a x y r r' w w' f f' p p' h k = chosen-same x 0 r r' w w' f f' p p' h k
-handed-same Second a x y r r' w w' f f' p p' h k = chosen-same y 1 r r' w w' f f' p p' h k
+handed_same First a x y r r' w w' f f' p p' h k = chosen_same x 0 r r' w w' f f' p p' h k
+handed_same Second a x y r r' w w' f f' p p' h k = chosen_same y 1 r r' w w' f f' p p' h k
 
 -- ONLY ONE OUTCOME
-pub better-unique : (x y r r' : File) (w w' f f' p p' : ℕ) → BetterOf x y r w f p → BetterOf x y r' w' f' p' → Same r r' w w' f f' p p'
-better-unique x y r r' w w' f f' p p' h k =
-    let e = bid-unique x.now h.first k.first h.is-first k.is-first in
-    let g = bid-unique y.now h.second k.second h.is-second k.is-second in
-    handed-same (choice_of h.first h.second) h.first x y r r' w w' f f' p p' h.handed
+pub better_unique : (x y r r' : File) (w w' f f' p p' : ℕ) → BetterOf x y r w f p → BetterOf x y r' w' f' p' → Same r r' w w' f f' p p'
+better_unique x y r r' w w' f f' p p' h k =
+    let e = bid_unique x.now h.first k.first h.is_first k.is_first in
+    let g = bid_unique y.now h.second k.second h.is_second k.is_second in
+    handed_same (choice_of h.first h.second) h.first x y r r' w w' f f' p p' h.handed
     (subst (λ (a : Bid). Handed (choice_of a h.second) a x y r' w' f' p') (sym e)
     (subst (λ (b : Bid). Handed (choice_of k.first b) k.first x y r' w' f' p') (sym g) k.handed))

@@ -1,6 +1,6 @@
 // Two rule files for the same socket, and the better of the two: the one with the lower high end.
 ghost use Rattle.std.specs.Prelude.{[], ◌≡◌, ◌*◌, ◌^◌, ◌<◌, ltb};
-ghost use Rattle.bids.specs.Promise.{refusedBid, choice_of, BidOf, LaidOf, BetterOf};
+ghost use Rattle.bids.specs.Promise.{refused_bid, choice_of, BidOf, LaidOf, BetterOf};
 ghost use Rattle.bids.specs.Steps.{Small};
 
 // A ratio in lowest terms.
@@ -37,7 +37,7 @@ pub struct Laid {
 }
 
 fn refused(refusal: u32, place: usize) -> Bid
-    ensures { result ≡ refusedBid refusal place }
+    ensures { result ≡ refused_bid refusal place }
 {
     let none = Ratio { p: 0, q: 0 };
     Bid {

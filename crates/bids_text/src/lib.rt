@@ -1,14 +1,14 @@
 // The text that the program `bids` prints for the bytes of two rule files: what is known of each, one under the other, and which is the better.
 ghost use Rattle.std.specs.Prelude.{◌+◌, ◌≤◌, length};
 ghost use Rattle.words.specs.Puts.{Puts};
-ghost use Rattle.bids_text.specs.Pair.{bidLine, betterLine, pairText, PairOf};
+ghost use Rattle.bids_text.specs.Pair.{bid_line_of, better_line_of, pair_text, PairOf};
 
 use bids::{Bid, Choice, Laid};
 use words::Text;
 
 // A name, then the bid's ends or its refusal.
 fn bid_line(name: &[u8], b: Bid, out: &mut [u8], at: usize) -> usize
-    ensures { Puts (bidLine name.now b) out.old at out.new result × (result ≤ at + length name.now + 99) }
+    ensures { Puts (bid_line_of name.now b) out.old at out.new result × (result ≤ at + length name.now + 99) }
 {
     let a = words::word(name, out, at);
     if 0 < b.refusal {
@@ -23,7 +23,7 @@ fn bid_line(name: &[u8], b: Bid, out: &mut [u8], at: usize) -> usize
 }
 
 fn better_line(choice: Choice, out: &mut [u8], at: usize) -> usize
-    ensures { Puts (betterLine choice) out.old at out.new result × (result ≤ at + 15) }
+    ensures { Puts (better_line_of choice) out.old at out.new result × (result ≤ at + 15) }
 {
     match choice {
         Choice::Neither => words::word(b"better neither\n", out, at),
@@ -34,7 +34,7 @@ fn better_line(choice: Choice, out: &mut [u8], at: usize) -> usize
 
 // The three lines.
 fn lines(laid: Laid, out: &mut [u8], at: usize) -> usize
-    ensures { Puts (pairText laid) out.old at out.new result × (result ≤ at + 226) }
+    ensures { Puts (pair_text laid) out.old at out.new result × (result ≤ at + 226) }
 {
     let first = laid.first;
     let second = laid.second;

@@ -1,9 +1,9 @@
 // A table within its limits as columns of numbers, made once: the engine lends these and never the table.
 ghost use Rattle.std.specs.Prelude.{◌≡◌};
-ghost use Rattle.model.specs.Filling.{leastOf, greatestOf};
-ghost use Rattle.table.specs.Limits.{maxDelay};
+ghost use Rattle.model.specs.Filling.{least_of, greatest_of};
+ghost use Rattle.table.specs.Limits.{max_delay};
 ghost use Rattle.table.specs.Fields.{Within};
-ghost use Rattle.table.specs.Meaning.{delayOf};
+ghost use Rattle.table.specs.Meaning.{delay_meant};
 ghost use Rattle.columns.specs.Lay.{Laid};
 
 use table::{Delay, Rule, Table};
@@ -26,7 +26,7 @@ struct May {
 
 // What a delay may be.
 fn may_be(delay: Delay) -> May
-    ensures { (result.least ≡ leastOf (delayOf delay)) × (result.greatest ≡ greatestOf maxDelay (delayOf delay)) }
+    ensures { (result.least ≡ least_of (delay_meant delay)) × (result.greatest ≡ greatest_of max_delay (delay_meant delay)) }
 {
     match delay {
         Delay::Unknown => May {
@@ -52,7 +52,7 @@ struct Row {
 
 fn laid(rule: Rule) -> Row
     ensures source_value { (result.source ≡ rule.source) × (result.target ≡ rule.target) × (result.offset ≡ rule.offset) }
-    ensures least_value { (result.least ≡ leastOf (delayOf rule.delay)) × (result.greatest ≡ greatestOf maxDelay (delayOf rule.delay)) }
+    ensures least_value { (result.least ≡ least_of (delay_meant rule.delay)) × (result.greatest ≡ greatest_of max_delay (delay_meant rule.delay)) }
 {
     let delay = rule.delay;
     let may = may_be(delay);

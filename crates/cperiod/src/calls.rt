@@ -1,9 +1,9 @@
 // Each call on what was handed in, its answer in the form that C gets.
 ghost use Rattle.std.specs.Prelude.{◌≡◌, ◌++◌, ◌≤◌, length, take, drop};
 ghost use Rattle.words.specs.Held.{room};
-ghost use Rattle.rates.specs.Rate.{refusedRate};
-ghost use Rattle.period.specs.Promise.{refusedAnalysis};
-ghost use Rattle.cperiod.specs.Promise.{bit_of, flatAnalysis, AnalysisFrom, flatRate, WritingFrom, SimulationFrom, ReportFrom, number_in};
+ghost use Rattle.rates.specs.Rate.{refused_rate};
+ghost use Rattle.period.specs.Promise.{refused_analysis};
+ghost use Rattle.cperiod.specs.Promise.{bit_of, flat_analysis_of, AnalysisFrom, flat_rate_of, WritingFrom, SimulationFrom, ReportFrom, number_in};
 ghost use Rattle.cperiod.specs.Bids.{BidsFrom};
 
 use crate::{PeriodAnalysis, PeriodBids, PeriodCount, PeriodNumber, PeriodRate, PeriodStatus};
@@ -24,7 +24,7 @@ fn bit(b: bool) -> u32
 }
 
 fn flat_analysis(a: Analysis) -> PeriodAnalysis
-    ensures { result ≡ flatAnalysis a }
+    ensures { result ≡ flat_analysis_of a }
 {
     let low = a.low;
     let high = a.high;
@@ -42,7 +42,7 @@ fn flat_analysis(a: Analysis) -> PeriodAnalysis
 }
 
 fn unanalysed(refusal: u32, place: usize) -> PeriodAnalysis
-    ensures { result ≡ flatAnalysis (refusedAnalysis refusal place) }
+    ensures { result ≡ flat_analysis_of (refused_analysis refusal place) }
 {
     PeriodAnalysis {
         refusal: refusal,
@@ -75,7 +75,7 @@ pub fn analysed(
 }
 
 pub fn flat_rate(a: Rated) -> PeriodRate
-    ensures { result ≡ flatRate a }
+    ensures { result ≡ flat_rate_of a }
 {
     let low = a.low;
     let high = a.high;
@@ -91,7 +91,7 @@ pub fn flat_rate(a: Rated) -> PeriodRate
 }
 
 pub fn unrated(refusal: u32, place: usize) -> PeriodRate
-    ensures { result ≡ flatRate (refusedRate refusal place) }
+    ensures { result ≡ flat_rate_of (refused_rate refusal place) }
 {
     PeriodRate {
         refusal: refusal,

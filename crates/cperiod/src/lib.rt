@@ -2,7 +2,7 @@
 mod calls;
 
 ghost use Rattle.std.specs.Prelude.{◌≡◌};
-ghost use Rattle.handed.specs.Columns.{columns, columnsOf, bytes_of, readInto, readAs};
+ghost use Rattle.handed.specs.Columns.{columns, columns_of_table, bytes_of, read_into, read_as};
 ghost use Rattle.cperiod.specs.Promise.{AnalysisFrom, RateFrom, WritingFrom, SimulationFrom, ReportFrom, number_in};
 ghost use Rattle.cperiod.specs.Bids.{BidsFrom};
 
@@ -86,7 +86,7 @@ pub extern "C" fn period_analyse(
     low: &mut [u32],
     high: &mut [u32],
 ) -> PeriodAnalysis
-    ensures { AnalysisFrom (columnsOf n (columns source.now target.now offset.now delay.now known.now)) schedule.old low.old high.old result schedule.new low.new high.new }
+    ensures { AnalysisFrom (columns_of_table n (columns source.now target.now offset.now delay.now known.now)) schedule.old low.old high.old result schedule.new low.new high.new }
 {
     let handed = handed::from_columns(n, source, target, offset, delay, known);
     calls::analysed(handed, schedule, low, high)
@@ -103,7 +103,7 @@ pub extern "C" fn period_rate(
     known: &[u8],
     v: usize,
 ) -> PeriodRate
-    ensures { RateFrom (columnsOf n (columns source.now target.now offset.now delay.now known.now)) v result }
+    ensures { RateFrom (columns_of_table n (columns source.now target.now offset.now delay.now known.now)) v result }
 {
     let handed = handed::from_columns(n, source, target, offset, delay, known);
     if 0 < handed.refusal {
@@ -125,7 +125,7 @@ pub extern "C" fn period_write(
     known: &[u8],
     out: &mut [u8],
 ) -> PeriodCount
-    ensures { WritingFrom (columnsOf n (columns source.now target.now offset.now delay.now known.now)) out.old result out.new }
+    ensures { WritingFrom (columns_of_table n (columns source.now target.now offset.now delay.now known.now)) out.old result out.new }
 {
     let handed = handed::from_columns(n, source, target, offset, delay, known);
     calls::written(handed, out)
@@ -143,7 +143,7 @@ pub extern "C" fn period_simulate(
     occurrences: usize,
     times: &mut [u64],
 ) -> PeriodStatus
-    ensures { SimulationFrom (columnsOf n (columns source.now target.now offset.now delay.now known.now)) occurrences times.old result times.new }
+    ensures { SimulationFrom (columns_of_table n (columns source.now target.now offset.now delay.now known.now)) occurrences times.old result times.new }
 {
     let handed = handed::from_columns(n, source, target, offset, delay, known);
     calls::simulated(handed, occurrences, times)
@@ -159,7 +159,7 @@ pub extern "C" fn period_read(
     delay: &mut [u32],
     known: &mut [u8],
 ) -> PeriodTable
-    ensures { readInto (bytes_of bytes.now) (columns source.old target.old offset.old delay.old known.old) ≡ readAs result (columns source.new target.new offset.new delay.new known.new) }
+    ensures { read_into (bytes_of bytes.now) (columns source.old target.old offset.old delay.old known.old) ≡ read_as result (columns source.new target.new offset.new delay.new known.new) }
 {
     handed::read(bytes, source, target, offset, delay, known)
 }

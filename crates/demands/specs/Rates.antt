@@ -1,13 +1,13 @@
 -- THE DEMANDS, FOR EACH TRANSITION'S RATE; and how the rates of one table stand to each other.
 --
---   unreached-refused    every loop turns and none reaches v: refused 6
---   reached-answered     every loop turns and one reaches v: answered
---   six-only             and so 6 is given in no other case
+--   unreached_refused    every loop turns and none reaches v: refused 6
+--   reached_answered     every loop turns and one reaches v: answered
+--   six_only             and so 6 is given in no other case
 --   InwardRate x y       == what filling may do to the verdict on a rate: nothing to a refusal; a rate's ends move inward, and an exact one stays
---   rate-filled-inward   DEMAND 3 FOR RATES, between the verdicts on two tables, the second with some blanks filled
---   rates-rise           neither end falls along a rule
---   rates-within         neither end is above the table's
---   low-attained, high-attained    and some transition has it as its own
+--   rate_filled_inward   DEMAND 3 FOR RATES, between the verdicts on two tables, the second with some blanks filled
+--   rates_rise           neither end falls along a rule
+--   rates_within         neither end is above the table's
+--   low_attained, high_attained    and some transition has it as its own
 use Rattle.std.specs.Prelude.{◌≡◌, ℕ, ◌*◌, ◌≤◌, ◌<◌}
 use Rattle.std.proofs.Common.{sym, ap, ◌∙◌, subst, arith}
 use Rattle.model.specs.Shape.{Shape, Fits}
@@ -18,48 +18,48 @@ use Rattle.model.specs.Period.{Period}
 use Rattle.model.specs.Ends.{LowEnd, HighEnd, Range}
 use Rattle.model.specs.Answer.{Answer, Answers}
 use Rattle.model.specs.Rate.{SomeLoopTo, NoLoopTo, Rate, Rates}
-use Rattle.theory.specs.Loop.{loop-start}
-use Rattle.theory.specs.Knot.{knot-not-live}
-use Rattle.theory.specs.Period.{period-exists}
-use Rattle.theory.specs.Ends.{period-steady, low-is, high_is, low-at-least, high-at-greatest}
-use Rattle.theory.specs.Rate.{rate-steady, rate-exists, rule-reaches, rate-rises, rate-within, period-rate}
+use Rattle.theory.specs.Loop.{loop_start}
+use Rattle.theory.specs.Knot.{knot_not_live}
+use Rattle.theory.specs.Period.{period_exists}
+use Rattle.theory.specs.Ends.{period_steady, low_is, high_is, low_at_least, high_at_greatest}
+use Rattle.theory.specs.Rate.{rate_steady, rate_exists, rule_reaches, rate_rises, rate_within, period_rate_lem}
 use Rattle.table.specs.declared.Table.{Table}
-use Rattle.table.specs.Limits.{maxOffset, maxDelay}
-use Rattle.table.specs.Fields.{Within, within-not-bad}
-use Rattle.table.specs.Meaning.{shape_of, rangesOf, within-fits, within-offsets, within-delays}
+use Rattle.table.specs.Limits.{max_offset, max_delay}
+use Rattle.table.specs.Fields.{Within, within_not_bad}
+use Rattle.table.specs.Meaning.{shape_of, ranges_of, within_fits, within_offsets, within_delays}
 use Rattle.engine.specs.Verdict.{proper}
-use Rattle.rates.specs.Rate.{RateVerdict, bad-field, no_name, knot-at, unreached, too_wide, rated, JudgesRate, rate-never-wide, rate-verdict-exists, rate-verdict-unique, refusedRate, answeredRate, ratedOf, RateOf}
+use Rattle.rates.specs.Rate.{RateVerdict, bad_field, no_name, knot_at, unreached, too_wide, rated, JudgesRate, rate_never_wide, rate_verdict_exists, rate_verdict_unique, refused_rate, answered_rate, rated_of, RateOf}
 use Rattle.rates.specs.declared.Rated.{Rated}
-use Rattle.demands.specs.Filled.{Filled, EndsInward, ends-inward, bad-filled, within-filled, shape-filled, narrows-filled}
+use Rattle.demands.specs.Filled.{Filled, EndsInward, ends_inward, bad_filled, within_filled, shape_filled, narrows_filled}
 
 -- ------------------------------------------------------------------------------------------------------------------------------- refused exactly when
 
 module _ (t : Table) (w : Within t) (v : ℕ) (b : v < t.n) (r : Rated) (is : RateOf t v r) where
-  by-verdict : (x : RateVerdict) → JudgesRate t v x → r ≡ ratedOf t.n x
-  by-verdict x j = is.result ∙ ap (ratedOf t.n) (rate-verdict-unique t v is.verdict x is.judged j)
+  by_verdict : (x : RateVerdict) → JudgesRate t v x → r ≡ rated_of t.n x
+  by_verdict x j = is.result ∙ ap (rated_of t.n) (rate_verdict_unique t v is.verdict x is.judged j)
 
-  pub unreached-refused : Live (shape_of t) → NoLoopTo (shape_of t) v → r ≡ refusedRate 6 0
-  unreached-refused live none = by-verdict unreached (w, b, live, none)
+  pub unreached_refused : Live (shape_of t) → NoLoopTo (shape_of t) v → r ≡ refused_rate 6 0
+  unreached_refused live none = by_verdict unreached (w, b, live, none)
 
-  pub reached-answered : Live (shape_of t) → SomeLoopTo (shape_of t) v → (a : Range) × Rates (shape_of t) (rangesOf t) v a × (r ≡ answeredRate a)
-  reached-answered live some = at (rate-verdict-exists t v).0 (rate-verdict-exists t v).1
+  pub reached_answered : Live (shape_of t) → SomeLoopTo (shape_of t) v → (a : Range) × Rates (shape_of t) (ranges_of t) v a × (r ≡ answered_rate a)
+  reached_answered live some = at (rate_verdict_exists t v).0 (rate_verdict_exists t v).1
     where
-      at : (x : RateVerdict) → JudgesRate t v x → (a : Range) × Rates (shape_of t) (rangesOf t) v a × (r ≡ answeredRate a)
-      at (bad-field k) j = absurd (within-not-bad t k w j)
+      at : (x : RateVerdict) → JudgesRate t v x → (a : Range) × Rates (shape_of t) (ranges_of t) v a × (r ≡ answered_rate a)
+      at (bad_field k) j = absurd (within_not_bad t k w j)
       at no_name j = absurd (omega (arith, j.1))
-      at (knot-at u) j = absurd (knot-not-live (shape_of t) u j.2 live)
-      at unreached j = absurd (j.3 some.at some.loop some.is-loop-to)
-      at too_wide j = absurd (rate-never-wide t w v b j.3.0 j.3.1 j.3.2)
-      at (rated a) j = (a, j.3, by-verdict (rated a) j)
+      at (knot_at u) j = absurd (knot_not_live (shape_of t) u j.2 live)
+      at unreached j = absurd (j.3 some.at some.loop some.is_loop_to)
+      at too_wide j = absurd (rate_never_wide t w v b j.3.0 j.3.1 j.3.2)
+      at (rated a) j = (a, j.3, by_verdict (rated a) j)
 
   -- 6 EXACTLY THEN
-  pub six-only : r.refusal ≡ 6 → Live (shape_of t) × NoLoopTo (shape_of t) v
-  six-only e = at is.verdict is.judged (sym (ap (λ (x : Rated). x.refusal) is.result) ∙ e)
+  pub six_only : r.refusal ≡ 6 → Live (shape_of t) × NoLoopTo (shape_of t) v
+  six_only e = at is.verdict is.judged (sym (ap (λ (x : Rated). x.refusal) is.result) ∙ e)
     where
-      at : (x : RateVerdict) → JudgesRate t v x → (ratedOf t.n x).refusal ≡ 6 → Live (shape_of t) × NoLoopTo (shape_of t) v
-      at (bad-field k) j z = absurd (omega arith)
+      at : (x : RateVerdict) → JudgesRate t v x → (rated_of t.n x).refusal ≡ 6 → Live (shape_of t) × NoLoopTo (shape_of t) v
+      at (bad_field k) j z = absurd (omega arith)
       at no_name j z = absurd (omega arith)
-      at (knot-at u) j z = absurd (omega arith)
+      at (knot_at u) j z = absurd (omega arith)
       at unreached j z = (j.2, j.3)
       at too_wide j z = absurd (omega arith)
       at (rated a) j z = absurd (omega arith)
@@ -67,43 +67,43 @@ module _ (t : Table) (w : Within t) (v : ℕ) (b : v < t.n) (r : Rated) (is : Ra
 -- ------------------------------------------------------------------------------------------------------------------------------------ blanks filled
 
 abbrev pub InwardRate : RateVerdict → RateVerdict → Type 0
-InwardRate (bad-field j) y = y ≡ bad-field j
+InwardRate (bad_field j) y = y ≡ bad_field j
 InwardRate no_name y = y ≡ no_name
-InwardRate (knot-at u) y = y ≡ knot-at u
+InwardRate (knot_at u) y = y ≡ knot_at u
 InwardRate unreached y = y ≡ unreached
 InwardRate too_wide y = y ≡ too_wide
-InwardRate (rated a) (bad-field k) = ⊥
+InwardRate (rated a) (bad_field k) = ⊥
 InwardRate (rated a) no_name = ⊥
-InwardRate (rated a) (knot-at u) = ⊥
+InwardRate (rated a) (knot_at u) = ⊥
 InwardRate (rated a) unreached = ⊥
 InwardRate (rated a) too_wide = ⊥
 InwardRate (rated a) (rated b) = EndsInward a b
 
 module _ (t t' : Table) (f : Filled t t') (v : ℕ) where
   named : v < t.n → v < t'.n
-  named b = omega (arith, f.n-same)
+  named b = omega (arith, f.n_same)
 
-  inward : (a b : Range) → Within t → Rates (shape_of t) (rangesOf t) v a → Rates (shape_of t) (rangesOf t') v b → EndsInward a b
+  inward : (a b : Range) → Within t → Rates (shape_of t) (ranges_of t) v a → Rates (shape_of t) (ranges_of t') v b → EndsInward a b
   inward a b w x y =
-      ends-inward (shape_of t) (λ D. Rate (shape_of t) D v) (rate-steady (shape_of t) t.n (within-fits t w) v) (rangesOf t) (rangesOf t') (narrows-filled t t' f w) a b x y
+      ends_inward (shape_of t) (λ D. Rate (shape_of t) D v) (rate_steady (shape_of t) t.n (within_fits t w) v) (ranges_of t) (ranges_of t') (narrows_filled t t' f w) a b x y
 
-  pub rate-filled-inward : (x y : RateVerdict) → JudgesRate t v x → JudgesRate t' v y → InwardRate x y
-  rate-filled-inward (bad-field k) y j j' = rate-verdict-unique t' v y (bad-field k) j' (bad-filled t t' f k j)
-  rate-filled-inward no_name y j j' = rate-verdict-unique t' v y no_name j' (within-filled t t' f j.0, omega (arith, j.1, f.n-same))
-  rate-filled-inward (knot-at u) y j j' =
-      rate-verdict-unique t' v y (knot-at u) j' (within-filled t t' f j.0, named j.1, subst (λ (S : Shape). Knot S u) (shape-filled t t' f) j.2)
-  rate-filled-inward unreached y j j' =
-      rate-verdict-unique t' v y unreached j'
-      (within-filled t t' f j.0, named j.1, subst (λ (S : Shape). Live S) (shape-filled t t' f) j.2, subst (λ (S : Shape). NoLoopTo S v) (shape-filled t t' f) j.3)
-  rate-filled-inward too_wide y j j' = absurd (rate-never-wide t j.0 v j.1 j.3.0 j.3.1 j.3.2)
-  rate-filled-inward (rated a) (bad-field k) j j' = absurd (within-not-bad t' k (within-filled t t' f j.0) j')
-  rate-filled-inward (rated a) no_name j j' = absurd (omega (arith, j.1, j'.1, f.n-same))
-  rate-filled-inward (rated a) (knot-at u) j j' = absurd (knot-not-live (shape_of t') u j'.2 (subst (λ (S : Shape). Live S) (shape-filled t t' f) j.2))
-  rate-filled-inward (rated a) unreached j j' =
+  pub rate_filled_inward : (x y : RateVerdict) → JudgesRate t v x → JudgesRate t' v y → InwardRate x y
+  rate_filled_inward (bad_field k) y j j' = rate_verdict_unique t' v y (bad_field k) j' (bad_filled t t' f k j)
+  rate_filled_inward no_name y j j' = rate_verdict_unique t' v y no_name j' (within_filled t t' f j.0, omega (arith, j.1, f.n_same))
+  rate_filled_inward (knot_at u) y j j' =
+      rate_verdict_unique t' v y (knot_at u) j' (within_filled t t' f j.0, named j.1, subst (λ (S : Shape). Knot S u) (shape_filled t t' f) j.2)
+  rate_filled_inward unreached y j j' =
+      rate_verdict_unique t' v y unreached j'
+      (within_filled t t' f j.0, named j.1, subst (λ (S : Shape). Live S) (shape_filled t t' f) j.2, subst (λ (S : Shape). NoLoopTo S v) (shape_filled t t' f) j.3)
+  rate_filled_inward too_wide y j j' = absurd (rate_never_wide t j.0 v j.1 j.3.0 j.3.1 j.3.2)
+  rate_filled_inward (rated a) (bad_field k) j j' = absurd (within_not_bad t' k (within_filled t t' f j.0) j')
+  rate_filled_inward (rated a) no_name j j' = absurd (omega (arith, j.1, j'.1, f.n_same))
+  rate_filled_inward (rated a) (knot_at u) j j' = absurd (knot_not_live (shape_of t') u j'.2 (subst (λ (S : Shape). Live S) (shape_filled t t' f) j.2))
+  rate_filled_inward (rated a) unreached j j' =
       let p = j.3.low.attained.given in
-      absurd (subst (λ (S : Shape). NoLoopTo S v) (sym (shape-filled t t' f)) j'.3 p.at p.loop p.is-loop-to)
-  rate-filled-inward (rated a) too_wide j j' = absurd (rate-never-wide t' j'.0 v j'.1 j'.3.0 j'.3.1 j'.3.2)
-  rate-filled-inward (rated a) (rated b) j j' = inward a b j.0 j.3 (subst (λ (S : Shape). Rates S (rangesOf t') v b) (sym (shape-filled t t' f)) j'.3)
+      absurd (subst (λ (S : Shape). NoLoopTo S v) (sym (shape_filled t t' f)) j'.3 p.at p.loop p.is_loop_to)
+  rate_filled_inward (rated a) too_wide j j' = absurd (rate_never_wide t' j'.0 v j'.1 j'.3.0 j'.3.1 j'.3.2)
+  rate_filled_inward (rated a) (rated b) j j' = inward a b j.0 j.3 (subst (λ (S : Shape). Rates S (ranges_of t') v b) (sym (shape_filled t t' f)) j'.3)
 
 -- ---------------------------------------------------------------------------------------------------------------------------- the rates of one table
 
@@ -112,58 +112,58 @@ module _ (t : Table) (w : Within t) (live : Live (shape_of t)) where
   S = shape_of t
 
   fits : Fits (shape_of t) t.n
-  fits = within-fits t w
+  fits = within_fits t w
 
-  least : (r : ℕ) → r < t.m → (rangesOf t).least r ≤ maxDelay
-  least r b = omega (arith, proper t r b, within-delays t w r b)
+  least : (r : ℕ) → r < t.m → (ranges_of t).least r ≤ max_delay
+  least r b = omega (arith, proper t r b, within_delays t w r b)
 
   -- the ends are the rates with the least and with the greatest delays
   module _ (v P Q : ℕ) (b : v < t.n) where
-    at-exists : (D : ℕ → ℕ) → ((r : ℕ) → r < t.m → D r ≤ maxDelay) → (E : ℕ → ℕ) → Rate (shape_of t) E v P Q → (p : ℕ) × (q : ℕ) × Rate (shape_of t) D v p q × Lowest p q
-    at-exists D most E x = rate-exists S t.n fits v b maxOffset maxDelay (within-offsets t w) live (record { at = x.at; loop = x.loop; is-loop-to = x.is-loop-to }) D most
+    at_exists : (D : ℕ → ℕ) → ((r : ℕ) → r < t.m → D r ≤ max_delay) → (E : ℕ → ℕ) → Rate (shape_of t) E v P Q → (p : ℕ) × (q : ℕ) × Rate (shape_of t) D v p q × Lowest p q
+    at_exists D most E x = rate_exists S t.n fits v b max_offset max_delay (within_offsets t w) live (record { at = x.at; loop = x.loop; is_loop_to = x.is_loop_to }) D most
 
-    low-at : LowEnd (shape_of t) (rangesOf t) (λ D. Rate (shape_of t) D v) P Q → Rate (shape_of t) (rangesOf t).least v P Q
-    low-at x =
-        let (p, q, y, l) = at-exists (rangesOf t).least least _ x.attained.given in
-        low-at-least S (rangesOf t) (λ D. Rate (shape_of t) D v) (rate-steady S t.n fits v) (proper t) P Q p q x y l
+    low_at : LowEnd (shape_of t) (ranges_of t) (λ D. Rate (shape_of t) D v) P Q → Rate (shape_of t) (ranges_of t).least v P Q
+    low_at x =
+        let (p, q, y, l) = at_exists (ranges_of t).least least _ x.attained.given in
+        low_at_least S (ranges_of t) (λ D. Rate (shape_of t) D v) (rate_steady S t.n fits v) (proper t) P Q p q x y l
 
-    high-at : HighEnd (shape_of t) (rangesOf t) (λ D. Rate (shape_of t) D v) P Q → Rate (shape_of t) (rangesOf t).greatest v P Q
-    high-at x =
-        let (p, q, y, l) = at-exists (rangesOf t).greatest (within-delays t w) _ x.attained.given in
-        high-at-greatest S (rangesOf t) (λ D. Rate (shape_of t) D v) (rate-steady S t.n fits v) (proper t) P Q p q x y l
+    high_at : HighEnd (shape_of t) (ranges_of t) (λ D. Rate (shape_of t) D v) P Q → Rate (shape_of t) (ranges_of t).greatest v P Q
+    high_at x =
+        let (p, q, y, l) = at_exists (ranges_of t).greatest (within_delays t w) _ x.attained.given in
+        high_at_greatest S (ranges_of t) (λ D. Rate (shape_of t) D v) (rate_steady S t.n fits v) (proper t) P Q p q x y l
 
   -- NEITHER END FALLS ALONG A RULE
-  pub rates-rise : (r : ℕ) → r < t.m → (a b : Range) → Rates (shape_of t) (rangesOf t) ((shape_of t).source r) a → Rates (shape_of t) (rangesOf t) ((shape_of t).target r) b
-      → (a.lowP * b.lowQ ≤ b.lowP * a.lowQ) × (a.highP * b.highQ ≤ b.highP * a.highQ)
-  rates-rise r l a b x y =
-      let on = rule-reaches S r l in
+  pub rates_rise : (r : ℕ) → r < t.m → (a b : Range) → Rates (shape_of t) (ranges_of t) ((shape_of t).source r) a → Rates (shape_of t) (ranges_of t) ((shape_of t).target r) b
+      → (a.low_p * b.low_q ≤ b.low_p * a.low_q) × (a.high_p * b.high_q ≤ b.high_p * a.high_q)
+  rates_rise r l a b x y =
+      let on = rule_reaches S r l in
       let c = fits r l in (
-        rate-rises S _ _ _ on _ _ _ _ (low-at _ _ _ c.0 x.low) (low-at _ _ _ c.1 y.low),
-        rate-rises S _ _ _ on _ _ _ _ (high-at _ _ _ c.0 x.high) (high-at _ _ _ c.1 y.high),
+        rate_rises S _ _ _ on _ _ _ _ (low_at _ _ _ c.0 x.low) (low_at _ _ _ c.1 y.low),
+        rate_rises S _ _ _ on _ _ _ _ (high_at _ _ _ c.0 x.high) (high_at _ _ _ c.1 y.high),
       )
 
   -- THE LARGEST RATE OF ALL IS THE TABLE'S PERIOD
-  module _ (a : Answer) (x : Answers (shape_of t) (rangesOf t) t.n a) where
-    one : (D : ℕ → ℕ) → ((r : ℕ) → r < t.m → D r ≤ maxDelay) → (P : ℕ) × (Q : ℕ) × Period (shape_of t) D P Q × Lowest P Q
+  module _ (a : Answer) (x : Answers (shape_of t) (ranges_of t) t.n a) where
+    one : (D : ℕ → ℕ) → ((r : ℕ) → r < t.m → D r ≤ max_delay) → (P : ℕ) × (Q : ℕ) × Period (shape_of t) D P Q × Lowest P Q
     one D most =
         let p = x.ends.low.attained.given in
-        period-exists S t.n fits maxOffset maxDelay (within-offsets t w) D most live (record { at = p.at; loop = p.loop; is_loop = p.is_loop })
+        period_exists S t.n fits max_offset max_delay (within_offsets t w) D most live (record { at = p.at; loop = p.loop; is_loop = p.is_loop })
 
-    low-period : Period (shape_of t) (rangesOf t).least a.ends.lowP a.ends.lowQ
-    low-period = let (p, q, y, l) = one (rangesOf t).least least in low-at-least S (rangesOf t) (Period S) (period-steady S) (proper t) _ _ p q x.ends.low y l
+    low_period : Period (shape_of t) (ranges_of t).least a.ends.low_p a.ends.low_q
+    low_period = let (p, q, y, l) = one (ranges_of t).least least in low_at_least S (ranges_of t) (Period S) (period_steady S) (proper t) _ _ p q x.ends.low y l
 
-    high-period : Period (shape_of t) (rangesOf t).greatest a.ends.highP a.ends.highQ
-    high-period = let (p, q, y, l) = one (rangesOf t).greatest (within-delays t w) in high-at-greatest S (rangesOf t) (Period S) (period-steady S) (proper t) _ _ p q x.ends.high y l
+    high_period : Period (shape_of t) (ranges_of t).greatest a.ends.high_p a.ends.high_q
+    high_period = let (p, q, y, l) = one (ranges_of t).greatest (within_delays t w) in high_at_greatest S (ranges_of t) (Period S) (period_steady S) (proper t) _ _ p q x.ends.high y l
 
-    pub rates-within : (v : ℕ) → v < t.n → (b : Range) → Rates (shape_of t) (rangesOf t) v b → (b.lowP * a.ends.lowQ ≤ a.ends.lowP * b.lowQ) × (b.highP * a.ends.highQ ≤ a.ends.highP * b.highQ)
-    rates-within v l b y = (rate-within S _ _ _ _ _ _ (low-at _ _ _ l y.low) low-period, rate-within S _ _ _ _ _ _ (high-at _ _ _ l y.high) high-period)
+    pub rates_within : (v : ℕ) → v < t.n → (b : Range) → Rates (shape_of t) (ranges_of t) v b → (b.low_p * a.ends.low_q ≤ a.ends.low_p * b.low_q) × (b.high_p * a.ends.high_q ≤ a.ends.high_p * b.high_q)
+    rates_within v l b y = (rate_within S _ _ _ _ _ _ (low_at _ _ _ l y.low) low_period, rate_within S _ _ _ _ _ _ (high_at _ _ _ l y.high) high_period)
 
-    pub low-attained : (v : ℕ) × (v < t.n) × LowEnd (shape_of t) (rangesOf t) (λ D. Rate (shape_of t) D v) a.ends.lowP a.ends.lowQ
-    low-attained =
-        let p = low-period in
-        (p.at, loop-start S t.n fits p.at p.loop p.is_loop, low-is S (rangesOf t) (λ D. Rate (shape_of t) D p.at) (rate-steady S t.n fits p.at) (proper t) _ _ (period-rate S _ _ _ p) x.ends.low.attained.lowest)
+    pub low_attained : (v : ℕ) × (v < t.n) × LowEnd (shape_of t) (ranges_of t) (λ D. Rate (shape_of t) D v) a.ends.low_p a.ends.low_q
+    low_attained =
+        let p = low_period in
+        (p.at, loop_start S t.n fits p.at p.loop p.is_loop, low_is S (ranges_of t) (λ D. Rate (shape_of t) D p.at) (rate_steady S t.n fits p.at) (proper t) _ _ (period_rate_lem S _ _ _ p) x.ends.low.attained.lowest)
 
-    pub high-attained : (v : ℕ) × (v < t.n) × HighEnd (shape_of t) (rangesOf t) (λ D. Rate (shape_of t) D v) a.ends.highP a.ends.highQ
-    high-attained =
-        let p = high-period in
-        (p.at, loop-start S t.n fits p.at p.loop p.is_loop, high_is S (rangesOf t) (λ D. Rate (shape_of t) D p.at) (rate-steady S t.n fits p.at) (proper t) _ _ (period-rate S _ _ _ p) x.ends.high.attained.lowest)
+    pub high_attained : (v : ℕ) × (v < t.n) × HighEnd (shape_of t) (ranges_of t) (λ D. Rate (shape_of t) D v) a.ends.high_p a.ends.high_q
+    high_attained =
+        let p = high_period in
+        (p.at, loop_start S t.n fits p.at p.loop p.is_loop, high_is S (ranges_of t) (λ D. Rate (shape_of t) D p.at) (rate_steady S t.n fits p.at) (proper t) _ _ (period_rate_lem S _ _ _ p) x.ends.high.attained.lowest)

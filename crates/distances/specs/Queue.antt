@@ -3,13 +3,13 @@
 --
 --   unknown n d                == how many of the n distances were not found
 --   Queued S n v d order k     == the first k places of order hold the transitions whose distances were found, nearest first
---   queue-past, queue-put      a place past those k is written, and a new distance joins them
---   queue-room, queue-full     fewer than n were found where one was not; with n, each was
+--   queue_past, queue_put      a place past those k is written, and a new distance joins them
+--   queue_room, queue_full     fewer than n were found where one was not; with n, each was
 --   Noted s x ..               == s is x away, unless its distance was found before
 --   Stem S v t x               == the source of each rule into t has a walk of x rules to v
---   Searching S n v t x ..     == the rules into t may be looked at; ready-home, ready-next
---   Looking ..                 == where the loop over the rules into t is: those from left on are done; looking-starts, looking-next, looking-full
---   Spreading ..               == where the loop over the queue is; spreading-starts, spreading-next, spreading-ends
+--   Searching S n v t x ..     == the rules into t may be looked at; ready_home, ready_next
+--   Looking ..                 == where the loop over the rules into t is: those from left on are done; looking_starts, looking_next, looking_full
+--   Spreading ..               == where the loop over the queue is; spreading_starts, spreading_next, spreading_ends
 --   Sought S n v d k           == the distances of all transitions to v, of which k were found
 use Rattle.std.specs.Prelude.{◌≡◌, refl, ◌⊎◌, ◌≢◌, List, ◌∷◌, [], ℕ, ◌+◌, ◌-◌, ◌≤◌, ◌<◌, length, get_or, set, replicate}
 use Rattle.std.proofs.Common.{ap, sym, ◌∙◌, ⊎_elim, arith, get_or-set_same, get_or-set_other}
@@ -17,9 +17,9 @@ use Rattle.std.proofs.Math.Logic.{by_cases}
 use Rattle.std.proofs.Math.Decide.{ℕ_discrete, dec_lt}
 use Rattle.std.proofs.lemmas.List.{get_or-replicate, set-get_or}
 use Rattle.model.specs.Shape.{Shape, Fits}
-use Rattle.peel.specs.Sum.{sum, sum-but, sum-most, sign, sign-some, sign-none, sign-most, inside}
-use Rattle.peel.specs.Linked.{Row, row-none, row-set}
-use Rattle.distances.specs.Near.{Way, Near, near_none, near-put, Settled, away-other}
+use Rattle.peel.specs.Sum.{sum, sum_but, sum_most, sign, sign_some, sign_none, sign_most, inside}
+use Rattle.peel.specs.Linked.{Row, row_none, row_set}
+use Rattle.distances.specs.Near.{Way, Near, near_none, near_put, Settled, away_other}
 
 -- how many of the n distances were not found: 512 stands for those
 abbrev pub unknown : ℕ → List ℕ → ℕ
@@ -65,12 +65,12 @@ module _ (order : List ℕ) (k s : ℕ) where
   kept : (i : ℕ) → i < k → get_or (set order k s) i 0 ≡ get_or order i 0
   kept i l = get_or-set_other order k i s 0 (λ e. omega arith)
 
-  pub queue-past : (S : Shape) (n v : ℕ) (d : List ℕ) → Queued S n v d order k → k < n → s < n → Queued S n v d (set order k s) k
-  queue-past S n v d h more below =
+  pub queue_past : (S : Shape) (n v : ℕ) (d : List ℕ) → Queued S n v d order k → k < n → s < n → Queued S n v d (set order k s) k
+  queue_past S n v d h more below =
       record {
         near = h.near;
         room = h.room;
-        row = row-set n order k s h.row (omega (arith, h.room)) below;
+        row = row_set n order k s h.row (omega (arith, h.room)) below;
         listed = λ x b l. let t = h.listed x b l in (t.0, t.1, kept t.0 t.1 ∙ t.2);
         found = λ i l. rw (kept i l) (h.found i l);
         rising = λ i j a l. rw (kept i (omega arith), kept j l) (h.rising i j a l);
@@ -80,11 +80,11 @@ module _ (order : List ℕ) (k s : ℕ) where
 
 -- a new distance x, of s, joins the queue
 module _ (S : Shape) (n v s x : ℕ) (d order : List ℕ) (k : ℕ) (h : Queued S n v d order k) (below : s < n) (new : get_or d s 0 ≡ 512) (low : x < 512) where
-  in-d : s < length d
-  in-d = inside d s (omega arith)
+  in_d : s < length d
+  in_d = inside d s (omega arith)
 
   here : get_or (set d s x) s 0 ≡ x
-  here = get_or-set_same d s x 0 in-d
+  here = get_or-set_same d s x 0 in_d
 
   other : (y : ℕ) → y ≢ s → get_or (set d s x) y 0 ≡ get_or d y 0
   other y e = get_or-set_other d s y x 0 e
@@ -94,51 +94,51 @@ module _ (S : Shape) (n v s x : ℕ) (d order : List ℕ) (k : ℕ) (h : Queued 
   fewer =
       omega (
         arith,
-        sum-but n (λ y. sign (get_or (set d s x) y 0 - 511)) (λ y. sign (get_or d y 0 - 511)) s below (λ y e. ap (λ z. sign (z - 511)) (other y e)),
-        sign-some (get_or d s 0 - 511) (omega arith),
-        sign-none (get_or (set d s x) s 0 - 511) (omega (arith, here)),
+        sum_but n (λ y. sign (get_or (set d s x) y 0 - 511)) (λ y. sign (get_or d y 0 - 511)) s below (λ y e. ap (λ z. sign (z - 511)) (other y e)),
+        sign_some (get_or d s 0 - 511) (omega arith),
+        sign_none (get_or (set d s x) s 0 - 511) (omega (arith, here)),
       )
 
-  pub queue-room : k < n
-  queue-room = omega (arith, h.few, fewer)
+  pub queue_room : k < n
+  queue_room = omega (arith, h.few, fewer)
 
   -- none that was found is s
   apart : (i : ℕ) → i < k → get_or order i 0 ≢ s
   apart i l e = omega (arith, new, h.found i l, ap (λ z. get_or d z 0) e)
 
   last : get_or (set order k s) k 0 ≡ s
-  last = get_or-set_same order k s 0 (omega (arith, h.room, h.row.room, queue-room))
+  last = get_or-set_same order k s 0 (omega (arith, h.room, h.row.room, queue_room))
 
-  same-far : (i : ℕ) → i < k → get_or (set d s x) (get_or (set order k s) i 0) 0 ≡ get_or d (get_or order i 0) 0
-  same-far i l = ap (λ z. get_or (set d s x) z 0) (kept order k s i l) ∙ other (get_or order i 0) (apart i l)
+  same_far : (i : ℕ) → i < k → get_or (set d s x) (get_or (set order k s) i 0) 0 ≡ get_or d (get_or order i 0) 0
+  same_far i l = ap (λ z. get_or (set d s x) z 0) (kept order k s i l) ∙ other (get_or order i 0) (apart i l)
 
-  last-far : get_or (set d s x) (get_or (set order k s) k 0) 0 ≡ x
-  last-far = ap (λ z. get_or (set d s x) z 0) last ∙ here
+  last_far : get_or (set d s x) (get_or (set order k s) k 0) 0 ≡ x
+  last_far = ap (λ z. get_or (set d s x) z 0) last ∙ here
 
-  pub queue-put : Way S v s x → ((i : ℕ) → i < k → get_or d (get_or order i 0) 0 ≤ x) → x ≤ k + 1 → Queued S n v (set d s x) (set order k s) (k + 1)
-  queue-put way top soon =
+  pub queue_put : Way S v s x → ((i : ℕ) → i < k → get_or d (get_or order i 0) 0 ≤ x) → x ≤ k + 1 → Queued S n v (set d s x) (set order k s) (k + 1)
+  queue_put way top soon =
       record {
-        near = near-put S v d s x h.near in-d (omega arith) way;
+        near = near_put S v d s x h.near in_d (omega arith) way;
         room = h.room;
-        row = row-set n order k s h.row (omega (arith, h.room, queue-room)) below;
+        row = row_set n order k s h.row (omega (arith, h.room, queue_room)) below;
         listed = λ y b l. by_cases (ℕ_discrete y s)
             (λ e. (k, omega arith, last ∙ sym e))
             (λ e. let t = h.listed y b (omega (arith, l, other y e)) in (t.0, omega (arith, t.1), kept order k s t.0 t.1 ∙ t.2));
-        found = λ i l. by_cases (ℕ_discrete i k) (λ e. rw e (omega (arith, last-far))) (λ e. let b : i < k = omega arith in omega (arith, same-far i b, h.found i b));
+        found = λ i l. by_cases (ℕ_discrete i k) (λ e. rw e (omega (arith, last_far))) (λ e. let b : i < k = omega arith in omega (arith, same_far i b, h.found i b));
         rising = λ i j a l. by_cases (ℕ_discrete j k)
-            (λ e. by_cases (ℕ_discrete i k) (λ f. rw (e, f) (omega arith)) (λ f. let b : i < k = omega arith in rw e (omega (arith, last-far, same-far i b, top i b))))
-            (λ e. let b : j < k = omega arith in omega (arith, same-far i (omega arith), same-far j b, h.rising i j a b));
-        slow = λ i l. by_cases (ℕ_discrete i k) (λ e. rw e (omega (arith, last-far))) (λ e. let b : i < k = omega arith in omega (arith, same-far i b, h.slow i b));
+            (λ e. by_cases (ℕ_discrete i k) (λ f. rw (e, f) (omega arith)) (λ f. let b : i < k = omega arith in rw e (omega (arith, last_far, same_far i b, top i b))))
+            (λ e. let b : j < k = omega arith in omega (arith, same_far i (omega arith), same_far j b, h.rising i j a b));
+        slow = λ i l. by_cases (ℕ_discrete i k) (λ e. rw e (omega (arith, last_far))) (λ e. let b : i < k = omega arith in omega (arith, same_far i b, h.slow i b));
         few = omega (arith, h.few, fewer);
       }
 
-  pub queue-top : ((i : ℕ) → i < k → get_or d (get_or order i 0) 0 ≤ x) → (i : ℕ) → i < k + 1 → get_or (set d s x) (get_or (set order k s) i 0) 0 ≤ x
-  queue-top top i l = by_cases (ℕ_discrete i k) (λ e. rw e (omega (arith, last-far))) (λ e. let b : i < k = omega arith in omega (arith, same-far i b, top i b))
+  pub queue_top : ((i : ℕ) → i < k → get_or d (get_or order i 0) 0 ≤ x) → (i : ℕ) → i < k + 1 → get_or (set d s x) (get_or (set order k s) i 0) 0 ≤ x
+  queue_top top i l = by_cases (ℕ_discrete i k) (λ e. rw e (omega (arith, last_far))) (λ e. let b : i < k = omega arith in omega (arith, same_far i b, top i b))
 
 -- with n found, each was
-pub queue-full : (S : Shape) (n v : ℕ) (d order : List ℕ) (k : ℕ) → Queued S n v d order k → n ≤ k → (x : ℕ) → x < n → get_or d x 0 < 512
-queue-full S n v d order k h all x b =
-    by_cases (ℕ_discrete (get_or d x 0) 512) (λ e. absurd (omega (arith, queue-room S n v x 0 d order k h b e (omega arith)))) (λ e. omega (arith, h.near.low x))
+pub queue_full : (S : Shape) (n v : ℕ) (d order : List ℕ) (k : ℕ) → Queued S n v d order k → n ≤ k → (x : ℕ) → x < n → get_or d x 0 < 512
+queue_full S n v d order k h all x b =
+    by_cases (ℕ_discrete (get_or d x 0) 512) (λ e. absurd (omega (arith, queue_room S n v x 0 d order k h b e (omega arith)))) (λ e. omega (arith, h.near.low x))
 
 -- the rules into t from left on were looked at, beginning with the distances d₀ and the queue order₀ of k₀
 pub record Looking (S : Shape) (n v t x : ℕ) (d₀ order₀ : List ℕ) (k₀ : ℕ) (d order : List ℕ) (k left : ℕ) : Type 0 where
@@ -151,8 +151,8 @@ pub record Looking (S : Shape) (n v t x : ℕ) (d₀ order₀ : List ℕ) (k₀ 
   pub more : k₀ ≤ k
 
 module _ (S : Shape) (n v t x : ℕ) (d₀ order₀ : List ℕ) (k₀ : ℕ) (ready : Searching S n v t x d₀ order₀ k₀) where
-  pub looking-starts : (left : ℕ) → ((r : ℕ) → r < S.rules → S.target r ≡ t → r < left) → Looking S n v t x d₀ order₀ k₀ d₀ order₀ k₀ left
-  looking-starts left all =
+  pub looking_starts : (left : ℕ) → ((r : ℕ) → r < S.rules → S.target r ≡ t → r < left) → Looking S n v t x d₀ order₀ k₀ d₀ order₀ k₀ left
+  looking_starts left all =
       record {
         queued = ready.queued;
         top = ready.top;
@@ -168,12 +168,12 @@ module _ (S : Shape) (n v t x : ℕ) (d₀ order₀ : List ℕ) (k₀ : ℕ) (re
   within d order k left h y b l = let i = h.queued.listed y (omega (arith, h.queued.room)) l in omega (arith, ap (λ z. get_or d z 0) i.2, h.top i.0 i.1)
 
   -- ALL WERE FOUND: the rules that are left show nothing new
-  pub looking-full : Fits S n → (d order : List ℕ) (k left : ℕ) → Looking S n v t x d₀ order₀ k₀ d order k left → n ≤ k → Looking S n v t x d₀ order₀ k₀ d order k 0
-  looking-full fits d order k left h all =
+  pub looking_full : Fits S n → (d order : List ℕ) (k left : ℕ) → Looking S n v t x d₀ order₀ k₀ d order k left → n ≤ k → Looking S n v t x d₀ order₀ k₀ d order k 0
+  looking_full fits d order k left h all =
       record {
         queued = h.queued;
         top = h.top;
-        seen = λ r b e l. within d order k left h (S.source r) (fits r b).0 (queue-full S n v d order k h.queued all (S.source r) (fits r b).0);
+        seen = λ r b e l. within d order k left h (S.source r) (fits r b).0 (queue_full S n v d order k h.queued all (S.source r) (fits r b).0);
         lower = h.lower;
         known = h.known;
         before = h.before;
@@ -181,33 +181,33 @@ module _ (S : Shape) (n v t x : ℕ) (d₀ order₀ : List ℕ) (k₀ : ℕ) (re
       }
 
   -- rule r, from s, is looked at; the next one is below p, and those between come from s too
-  module _ (d order : List ℕ) (k left r s p : ℕ) (h : Looking S n v t x d₀ order₀ k₀ d order k left) (more : k < n) (is-rule : r < S.rules) (into : S.target r ≡ t) (from : s ≡ S.source r)
+  module _ (d order : List ℕ) (k left r s p : ℕ) (h : Looking S n v t x d₀ order₀ k₀ d order k left) (more : k < n) (is_rule : r < S.rules) (into : S.target r ≡ t) (from : s ≡ S.source r)
       (below : s < n) (next : (q : ℕ) → q < r → S.target q ≡ t → p ≤ q → S.source q ≡ S.source r) where
     -- a rule into t from p to r comes from s: it is r, or passed over
     passed : (q : ℕ) → S.target q ≡ t → p ≤ q → q ≤ r → S.source q ≡ s
     passed q e a l = by_cases (ℕ_discrete q r) (λ f. ap (λ z. S.source z) f ∙ sym from) (λ f. next q (omega arith) e a ∙ sym from)
 
-    seen-known : get_or d s 0 < 512 → (q : ℕ) → q < S.rules → S.target q ≡ t → p ≤ q → left ≡ r + 1 → get_or d (S.source q) 0 ≤ x
-    seen-known l q b e a up =
+    seen_known : get_or d s 0 < 512 → (q : ℕ) → q < S.rules → S.target q ≡ t → p ≤ q → left ≡ r + 1 → get_or d (S.source q) 0 ≤ x
+    seen_known l q b e a up =
         by_cases (dec_lt r q) (λ c. h.seen q b e (omega arith)) (λ c. rw (passed q e a (omega arith)) (within d order k left h s below l))
 
-    looking-known : left ≡ r + 1 → get_or d s 0 < 512 → Looking S n v t x d₀ order₀ k₀ d (set order k s) k p
-    looking-known up l =
+    looking_known : left ≡ r + 1 → get_or d s 0 < 512 → Looking S n v t x d₀ order₀ k₀ d (set order k s) k p
+    looking_known up l =
         record {
-          queued = queue-past order k s S n v d h.queued more below;
+          queued = queue_past order k s S n v d h.queued more below;
           top = λ i b. rw (kept order k s i b) (h.top i b);
-          seen = λ q b e a. seen-known l q b e a up;
+          seen = λ q b e a. seen_known l q b e a up;
           lower = h.lower;
           known = h.known;
           before = λ i b. kept order k s i (omega (arith, h.more)) ∙ h.before i b;
           more = h.more;
         }
 
-    looking-new : left ≡ r + 1 → get_or d s 0 ≡ 512 → Looking S n v t x d₀ order₀ k₀ (set d s x) (set order k s) (k + 1) p
-    looking-new up new =
+    looking_new : left ≡ r + 1 → get_or d s 0 ≡ 512 → Looking S n v t x d₀ order₀ k₀ (set d s x) (set order k s) (k + 1) p
+    looking_new up new =
         record {
-          queued = queue-put S n v s x d order k h.queued below new ready.low (rw from (ready.stem r is-rule into)) h.top (omega (arith, ready.soon, h.more));
-          top = queue-top S n v s x d order k h.queued below new ready.low h.top;
+          queued = queue_put S n v s x d order k h.queued below new ready.low (rw from (ready.stem r is_rule into)) h.top (omega (arith, ready.soon, h.more));
+          top = queue_top S n v s x d order k h.queued below new ready.low h.top;
           seen = seen;
           lower = lower;
           known = λ y l. other S n v s x d order k h.queued below new ready.low y (λ e. omega (arith, new, h.known y l, ap (λ z. get_or d z 0) e)) ∙ h.known y l;
@@ -232,11 +232,11 @@ module _ (S : Shape) (n v t x : ℕ) (d₀ order₀ : List ℕ) (k₀ : ℕ) (re
             by_cases (dec_lt r q) (λ c. fell (S.source q) (h.seen q b e (omega arith))) (λ c. rw (passed q e a (omega arith)) (omega (arith, put)))
 
     -- ONE RULE
-    pub looking-next : left ≡ r + 1 → (d' order' : List ℕ) (k' : ℕ) → Noted s x d d' order order' k k' → Looking S n v t x d₀ order₀ k₀ d' order' k' p
-    looking-next up d' order' k' n =
+    pub looking_next : left ≡ r + 1 → (d' order' : List ℕ) (k' : ℕ) → Noted s x d d' order order' k k' → Looking S n v t x d₀ order₀ k₀ d' order' k' p
+    looking_next up d' order' k' n =
         by_cases (ℕ_discrete (get_or d s 0) 512)
-        (λ e. let c = n.new e in rw (c.0, n.put, c.1) (looking-new up e))
-        (λ e. let l : get_or d s 0 < 512 = omega (arith, h.queued.near.low s) in let c = n.known l in rw (c.0, n.put, c.1) (looking-known up l))
+        (λ e. let c = n.new e in rw (c.0, n.put, c.1) (looking_new up e))
+        (λ e. let l : get_or d s 0 < 512 = omega (arith, h.queued.near.low s) in let c = n.known l in rw (c.0, n.put, c.1) (looking_known up l))
 
 -- where the loop over the queue is: the rules into v, and into the first done places of the queue, were looked at
 pub record Spreading (S : Shape) (n v : ℕ) (d order : List ℕ) (done k : ℕ) : Type 0 where
@@ -253,32 +253,32 @@ pub record Sought (S : Shape) (n v : ℕ) (d : List ℕ) (k : ℕ) : Type 0 wher
   pub all : n ≤ k → (x : ℕ) → x < n → get_or d x 0 < 512
 
 -- a rule, and then a walk from its target
-way-over : (S : Shape) (v r k : ℕ) → r < S.rules → Way S v (S.target r) k → Way S v (S.source r) (k + 1)
-way-over S v r k b w = record { walk = r ∷ w.walk; size = omega (arith, w.size); some-rule = omega arith; walks = (b, refl, w.walks) }
+way_over : (S : Shape) (v r k : ℕ) → r < S.rules → Way S v (S.target r) k → Way S v (S.source r) (k + 1)
+way_over S v r k b w = record { walk = r ∷ w.walk; size = omega (arith, w.size); some_rule = omega arith; walks = (b, refl, w.walks) }
 
 module _ (S : Shape) (n v : ℕ) where
   -- at first no distance is known
-  pub ready-home : 1 ≤ n → n ≤ 256 → Searching S n v v 1 (replicate 256 512) (replicate 256 0) 0
-  ready-home some room =
+  pub ready_home : 1 ≤ n → n ≤ 256 → Searching S n v v 1 (replicate 256 512) (replicate 256 0) 0
+  ready_home some room =
       record {
         queued = record {
           near = near_none S v;
           room = room;
-          row = row-none n some;
+          row = row_none n some;
           listed = λ x b l. absurd (omega (arith, get_or-replicate {A = ℕ} 256 x 512 0 b));
           found = λ i l. absurd (omega arith);
           rising = λ i j a l. absurd (omega arith);
           slow = λ i l. absurd (omega arith);
-          few = omega (arith, sum-most n (λ x. sign (get_or (replicate 256 512) x 0 - 511)) (λ x. sign-most (get_or (replicate 256 512) x 0 - 511)));
+          few = omega (arith, sum_most n (λ x. sign (get_or (replicate 256 512) x 0 - 511)) (λ x. sign_most (get_or (replicate 256 512) x 0 - 511)));
         };
-        stem = λ r b e. record { walk = r ∷ []; size = refl; some-rule = omega arith; walks = (b, refl, e) };
+        stem = λ r b e. record { walk = r ∷ []; size = refl; some_rule = omega arith; walks = (b, refl, e) };
         top = λ i l. absurd (omega arith);
         soon = omega arith;
         low = omega arith;
       }
 
-  pub spreading-starts : (d₀ order₀ d order : List ℕ) (k : ℕ) → Looking S n v v 1 d₀ order₀ 0 d order k 0 → Spreading S n v d order 0 k
-  spreading-starts d₀ order₀ d order k h =
+  pub spreading_starts : (d₀ order₀ d order : List ℕ) (k : ℕ) → Looking S n v v 1 d₀ order₀ 0 d order k 0 → Spreading S n v d order 0 k
+  spreading_starts d₀ order₀ d order k h =
       record {
         queued = h.queued;
         behind = omega arith;
@@ -290,24 +290,24 @@ module _ (S : Shape) (n v : ℕ) where
   module _ (d order : List ℕ) (done k : ℕ) (h : Spreading S n v d order done k) where
     -- the next in the queue
     module _ (more : done < k) (t x : ℕ) (et : t ≡ get_or order done 0) (ex : x ≡ get_or d t 0 + 1) where
-      far-t : x ≡ get_or d (get_or order done 0) 0 + 1
-      far-t = omega (arith, ex, ap (λ z. get_or d z 0) et)
+      far_t : x ≡ get_or d (get_or order done 0) 0 + 1
+      far_t = omega (arith, ex, ap (λ z. get_or d z 0) et)
 
-      pub ready-next : Searching S n v t x d order k
-      ready-next =
+      pub ready_next : Searching S n v t x d order k
+      ready_next =
           record {
             queued = h.queued;
-            stem = λ r b e. rw ex (way-over S v r (get_or d t 0) b (rw e way));
-            top = λ i l. omega (arith, far-t, h.close i done l (omega arith) more);
-            soon = omega (arith, far-t, h.queued.slow done more);
-            low = omega (arith, far-t, h.queued.slow done more, h.queued.few, h.queued.room);
+            stem = λ r b e. rw ex (way_over S v r (get_or d t 0) b (rw e way));
+            top = λ i l. omega (arith, far_t, h.close i done l (omega arith) more);
+            soon = omega (arith, far_t, h.queued.slow done more);
+            low = omega (arith, far_t, h.queued.slow done more, h.queued.few, h.queued.room);
           }
         where
           way : Way S v t (get_or d t 0)
           way = h.queued.near.attained t (omega (arith, et, h.queued.row.low done, h.queued.room)) (omega (arith, ap (λ z. get_or d z 0) et, h.queued.found done more))
 
-      pub spreading-next : (d' order' : List ℕ) (k' : ℕ) → Looking S n v t x d order k d' order' k' 0 → Spreading S n v d' order' (done + 1) k'
-      spreading-next d' order' k' l =
+      pub spreading_next : (d' order' : List ℕ) (k' : ℕ) → Looking S n v t x d order k d' order' k' 0 → Spreading S n v d' order' (done + 1) k'
+      spreading_next d' order' k' l =
           record {
             queued = l.queued;
             behind = omega (arith, l.more);
@@ -323,11 +323,11 @@ module _ (S : Shape) (n v : ℕ) where
           same i b = ap (λ z. get_or d' z 0) (l.before i b) ∙ l.known (get_or order i 0) (h.queued.found i b)
 
           now : x ≡ get_or d' (get_or order' done 0) 0 + 1
-          now = omega (arith, far-t, same done more)
+          now = omega (arith, far_t, same done more)
 
     -- EVERY RULE WAS LOOKED AT, or shows nothing new: among what was found, nothing is more than one farther than what still waits
-    pub spreading-ends : Fits S n → (k ≤ done) ⊎ (n ≤ k) → Sought S n v d k
-    spreading-ends fits over = record { near = h.queued.near; settled = settled; all = queue-full S n v d order k h.queued }
+    pub spreading_ends : Fits S n → (k ≤ done) ⊎ (n ≤ k) → Sought S n v d k
+    spreading_ends fits over = record { near = h.queued.near; settled = settled; all = queue_full S n v d order k h.queued }
       where
         listed : (x : ℕ) → x < n → get_or d x 0 < 512 → (i : ℕ) × (i < k) × (get_or order i 0 ≡ x)
         listed x b l = h.queued.listed x (omega (arith, h.queued.room)) l
@@ -336,7 +336,7 @@ module _ (S : Shape) (n v : ℕ) where
         waits : (r j : ℕ) → r < S.rules → done ≤ j → j < k → get_or d (S.source r) 0 ≤ get_or d (get_or order j 0) 0 + 1
         waits r j b a l =
             let all : n ≤ k = ⊎_elim (λ (e : k ≤ done). omega arith) (λ (e : n ≤ k). e) over in
-            let i = listed (S.source r) (fits r b).0 (queue-full S n v d order k h.queued all (S.source r) (fits r b).0) in
+            let i = listed (S.source r) (fits r b).0 (queue_full S n v d order k h.queued all (S.source r) (fits r b).0) in
             omega (arith, h.close i.0 j i.1 a l, ap (λ z. get_or d z 0) i.2)
 
         settled : Settled S v d
@@ -344,7 +344,7 @@ module _ (S : Shape) (n v : ℕ) where
             by_cases (ℕ_discrete (S.target r) v)
             (λ e. omega (arith, h.home r b e))
             (λ e.
-            let a = away-other v (S.target r) (get_or d (S.target r) 0) e in
+            let a = away_other v (S.target r) (get_or d (S.target r) 0) e in
             by_cases (dec_lt (get_or d (S.target r) 0) 512)
             (λ l. let i = listed (S.target r) (fits r b).1 l in
             let same = ap (λ z. get_or d z 0) i.2 in

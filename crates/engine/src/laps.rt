@@ -2,8 +2,8 @@
 ghost use Rattle.std.specs.Prelude.{◌≡◌, ◌++◌, ℕ, ◌-◌, ◌≤◌, length, get_or, take, replicate};
 ghost use Rattle.model.specs.Loop.{Live};
 ghost use Rattle.model.specs.Ends.{Exact};
-ghost use Rattle.columns.specs.Columns.{shape, delayAt, Limits, Short, Ordered};
-ghost use Rattle.engine.specs.Lap.{refusedLap, end_of, answeredLap, Sided, answer_of, rangesIn, LapIn};
+ghost use Rattle.columns.specs.Columns.{shape, delay_at, Limits, Short, Ordered};
+ghost use Rattle.engine.specs.Lap.{refused_lap, end_of, answered_lap, Sided, answer_of, ranges_in, LapIn};
 
 use crate::{End, Lap};
 
@@ -12,7 +12,7 @@ pub const LOOP: u32 = 5;
 pub const FLAT: u32 = 6;
 
 pub fn refused(refusal: u32, place: usize) -> Lap
-    ensures { result ≡ refusedLap refusal place }
+    ensures { result ≡ refused_lap refusal place }
 {
     let none = End {
         p: 0,
@@ -70,7 +70,7 @@ fn measured(
     n: usize,
 ) -> Side
     requires { (Limits source.now target.now offset.now m n) × (Short delay.now m) × (Live (shape source.now target.now offset.now m)) }
-    ensures { Sided (shape source.now target.now offset.now m) (delayAt delay.now) n result.p result.q result.len result.rules result.x }
+    ensures { Sided (shape source.now target.now offset.now m) (delay_at delay.now) n result.p result.q result.len result.rules result.x }
 {
     let top = search::climb(source, target, offset, delay, m, n);
     let p = top.p;
@@ -116,7 +116,7 @@ fn end(p: u64, q: u64, len: usize, rules: [u16; 256]) -> End
 // The answer that two sides make.
 fn answered(n: usize, low: Side, high: Side) -> Lap
     requires { (n ≤ 256) × (low.len ≤ 256) × (high.len ≤ 256) × ((v : ℕ) → n ≤ v → get_or high.x v 0 ≡ 0) × (length high.x ≡ 256) }
-    ensures { (Exact low.p low.q high.p high.q result.exact) × (result ≡ answeredLap (answer_of n low.p low.q low.len low.rules high.p high.q high.len high.rules high.x result.exact)) }
+    ensures { (Exact low.p low.q high.p high.q result.exact) × (result ≡ answered_lap (answer_of n low.p low.q low.len low.rules high.p high.q high.len high.rules high.x result.exact)) }
 {
     let rules = low.rules;
     let least = end(low.p, low.q, low.len, rules);
@@ -146,7 +146,7 @@ pub fn laps<'a>(
     n: usize,
 ) -> Lap
     requires { (Limits source.now target.now offset.now m n) × (Ordered least.now greatest.now m blank) }
-    ensures { LapIn (shape source.now target.now offset.now m) (rangesIn least.now greatest.now) n result }
+    ensures { LapIn (shape source.now target.now offset.now m) (ranges_in least.now greatest.now) n result }
 {
     let zero = loops::zero_loop(source, target, offset, m, n);
     if 0 < zero.len {

@@ -1,7 +1,7 @@
 // A table handed in as columns of numbers or as the bytes of a rule file, and handed out as columns: what the calls for C are asked about.
 ghost use Rattle.std.specs.Prelude.{◌≡◌, ◌≤◌, length};
-ghost use Rattle.table.specs.Limits.{maxM};
-ghost use Rattle.handed.specs.Columns.{columns, ruleFrom, stored, table_of, short_of, refusedTable, columnsOf, bytes_of, delayIn, knownIn, columnsFrom, refusedColumns, readInto, readAs};
+ghost use Rattle.table.specs.Limits.{max_m};
+ghost use Rattle.handed.specs.Columns.{columns, rule_from_of, stored, table_of, short_of, refused_table, columns_of_table, bytes_of, delay_in_of, known_in_of, columns_from, refused_columns, read_into, read_as};
 
 use table::{Delay, Rule, Table};
 
@@ -26,7 +26,7 @@ pub struct PeriodTable {
 }
 
 fn rule_from(source: u16, target: u16, offset: u16, delay: u32, known: u8) -> Rule
-    ensures { result ≡ ruleFrom source target offset delay known }
+    ensures { result ≡ rule_from_of source target offset delay known }
 {
     if known == 0 {
         return Rule {
@@ -96,7 +96,7 @@ fn short(m: usize, target: usize, offset: usize, delay: usize, known: usize) -> 
 }
 
 fn not_handed(refusal: u32, place: usize) -> Handed
-    ensures { result ≡ refusedTable refusal place }
+    ensures { result ≡ refused_table refusal place }
 {
     let none = Table::empty();
     Handed {
@@ -115,7 +115,7 @@ pub fn from_columns(
     delay: &[u32],
     known: &[u8],
 ) -> Handed
-    ensures { result ≡ columnsOf n (columns source.now target.now offset.now delay.now known.now) }
+    ensures { result ≡ columns_of_table n (columns source.now target.now offset.now delay.now known.now) }
 {
     if short(
         source.len(),
@@ -136,7 +136,7 @@ pub fn from_columns(
 
 // What is handed in by the bytes of a file; a table that is read has no more rules than places.
 pub fn from_file(bytes: &[u8]) -> Handed
-    ensures { (result ≡ bytes_of bytes.now) × (result.refusal ≡ 0 → result.table.m ≤ maxM) }
+    ensures { (result ≡ bytes_of bytes.now) × (result.refusal ≡ 0 → result.table.m ≤ max_m) }
 {
     let x = rulefile::read(bytes);
     let t = x.table;
@@ -148,7 +148,7 @@ pub fn from_file(bytes: &[u8]) -> Handed
 }
 
 fn delay_in(delay: Delay) -> u32
-    ensures { result ≡ delayIn delay }
+    ensures { result ≡ delay_in_of delay }
 {
     match delay {
         Delay::Unknown => 0,
@@ -157,7 +157,7 @@ fn delay_in(delay: Delay) -> u32
 }
 
 fn known_in(delay: Delay) -> u8
-    ensures { result ≡ knownIn delay }
+    ensures { result ≡ known_in_of delay }
 {
     match delay {
         Delay::Unknown => 0,
@@ -174,8 +174,8 @@ fn put_columns(
     delay: &mut [u32],
     known: &mut [u8],
 )
-    requires { (t.m ≤ maxM) × (t.m ≤ length source.old) × (t.m ≤ length target.old) × (t.m ≤ length offset.old) × (t.m ≤ length delay.old) × (t.m ≤ length known.old) }
-    ensures { columns source.new target.new offset.new delay.new known.new ≡ columnsFrom t (columns source.old target.old offset.old delay.old known.old) t.m }
+    requires { (t.m ≤ max_m) × (t.m ≤ length source.old) × (t.m ≤ length target.old) × (t.m ≤ length offset.old) × (t.m ≤ length delay.old) × (t.m ≤ length known.old) }
+    ensures { columns source.new target.new offset.new delay.new known.new ≡ columns_from t (columns source.old target.old offset.old delay.old known.old) t.m }
 {
     let m = t.m;
     let mut r = 0;
@@ -192,7 +192,7 @@ fn put_columns(
 }
 
 fn unread(refusal: u32, place: usize) -> PeriodTable
-    ensures { result ≡ refusedColumns refusal place }
+    ensures { result ≡ refused_columns refusal place }
 {
     PeriodTable {
         refusal: refusal,
@@ -211,8 +211,8 @@ fn columns_of(
     delay: &mut [u32],
     known: &mut [u8],
 ) -> PeriodTable
-    requires { handed.refusal ≡ 0 → handed.table.m ≤ maxM }
-    ensures { readInto handed (columns source.old target.old offset.old delay.old known.old) ≡ readAs result (columns source.new target.new offset.new delay.new known.new) }
+    requires { handed.refusal ≡ 0 → handed.table.m ≤ max_m }
+    ensures { read_into handed (columns source.old target.old offset.old delay.old known.old) ≡ read_as result (columns source.new target.new offset.new delay.new known.new) }
 {
     if 0 < handed.refusal {
         return unread(handed.refusal, handed.place);
@@ -244,7 +244,7 @@ pub fn read(
     delay: &mut [u32],
     known: &mut [u8],
 ) -> PeriodTable
-    ensures { readInto (bytes_of bytes.now) (columns source.old target.old offset.old delay.old known.old) ≡ readAs result (columns source.new target.new offset.new delay.new known.new) }
+    ensures { read_into (bytes_of bytes.now) (columns source.old target.old offset.old delay.old known.old) ≡ read_as result (columns source.new target.new offset.new delay.new known.new) }
 {
     let handed = from_file(bytes);
     columns_of(handed, source, target, offset, delay, known)

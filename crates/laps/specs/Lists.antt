@@ -1,7 +1,7 @@
 -- Written-out lists of rules, and how what is said of them is proved: rule by rule.
 --
 --   Rule, rule              == a rule as the paper writes it, source>target/offset/delay
---   shape_of rs, rangesOf rs == the shape and the ranges of a list of rules, an unknown delay being at most 1,000,000
+--   shape_of rs, ranges_of rs == the shape and the ranges of a list of rules, an unknown delay being at most 1,000,000
 --   Lap, Right           == a lap worked by hand, and what it claims
 --   kept, times             a finite check for schedules and for times
 --   ring-loops, ..          the loops of the shapes in the table
@@ -33,8 +33,8 @@ none = rule 0 0 0 unknown
 abbrev pub shape_of : List Rule → Shape
 shape_of rs = record { rules = length rs; source = λ r. (get_or rs r none).source; target = λ r. (get_or rs r none).target; offset = λ r. (get_or rs r none).offset }
 
-abbrev pub rangesOf : List Rule → Ranges
-rangesOf rs = ranges 1000000 (λ r. (get_or rs r none).delay)
+abbrev pub ranges_of : List Rule → Ranges
+ranges_of rs = ranges 1000000 (λ r. (get_or rs r none).delay)
 
 -- what the paper says of a list: the whole answer, or the refusal 5 at a place, or the refusal 6
 pub data Says : Type 0 where
@@ -58,8 +58,8 @@ Holds S K n flat = Live S × NoLoop S
 -- the times are what a buffer of their length, all zeros before, then holds
 abbrev pub Right : Lap → Type 0
 Right l =
-    Holds (shape_of l.rules) (rangesOf l.rules) l.n l.says
-    × Timed (shape_of l.rules) (rangesOf l.rules).least l.occurrences l.n (replicate (length l.times) 0) l.times
+    Holds (shape_of l.rules) (ranges_of l.rules) l.n l.says
+    × Timed (shape_of l.rules) (ranges_of l.rules).least l.occurrences l.n (replicate (length l.times) 0) l.times
 
 -- a fact of each of the first m numbers, written out
 abbrev Each : (ℕ → Type 0) → ℕ → Type 0
@@ -86,8 +86,8 @@ TimeEach S D T i v = Each (Met S D T i v) S.rules × ((T i v ≡ 0) ⊎ ((r : �
 pub time : (S : Shape) (D : ℕ → ℕ) (T : ℕ → ℕ → ℕ) (i v : ℕ) → TimeEach S D T i v → IsTime S D T i v
 time S D T i v t =
     record {
-      late-enough = λ r a. each (Met S D T i v) S.rules t.0 r a.is-rule a;
-      no-later = ⊎_elim inl (λ c. inr (record { rule = c.0; acts = c.1; exact = c.2 })) t.1;
+      late_enough = λ r a. each (Met S D T i v) S.rules t.0 r a.is_rule a;
+      no_later = ⊎_elim inl (λ c. inr (record { rule = c.0; acts = c.1; exact = c.2 })) t.1;
     }
 
 abbrev pub RowEach : Shape → (ℕ → ℕ) → (ℕ → ℕ → ℕ) → ℕ → ℕ → Type 0
@@ -121,20 +121,20 @@ pub untimed : (S : Shape) (D : ℕ → ℕ) (n : ℕ) → Timed S D 0 n [] []
 untimed S D n = timed S D 0 n [] (omega arith) tt
 
 -- a ratio over 1 is in lowest terms, and so is 7/2
-one-divides : (k d : ℕ) → 1 ≡ k * d → d ≡ 1
-one-divides zero d e = absurd (omega arith)
-one-divides (suc k) zero e = absurd (omega arith)
-one-divides (suc k) (suc zero) e = refl
-one-divides (suc k) (suc (suc d)) e = absurd (omega arith)
+one_divides : (k d : ℕ) → 1 ≡ k * d → d ≡ 1
+one_divides zero d e = absurd (omega arith)
+one_divides (suc k) zero e = absurd (omega arith)
+one_divides (suc k) (suc zero) e = refl
+one_divides (suc k) (suc (suc d)) e = absurd (omega arith)
 
-pub lowest-one : (P : ℕ) → Lowest P 1
-lowest-one P d x (k, e) = one-divides k d e
+pub lowest_one : (P : ℕ) → Lowest P 1
+lowest_one P d x (k, e) = one_divides k d e
 
-pub lowest-7-2 : Lowest 7 2
-lowest-7-2 zero (a, x) (b, y) = absurd (omega arith)
-lowest-7-2 (suc zero) x y = refl
-lowest-7-2 (suc (suc zero)) (a, x) (b, y) = absurd (omega arith)
-lowest-7-2 (suc (suc (suc d))) (a, x) (b, y) = absurd (low b y)
+pub lowest_7_2 : Lowest 7 2
+lowest_7_2 zero (a, x) (b, y) = absurd (omega arith)
+lowest_7_2 (suc zero) x y = refl
+lowest_7_2 (suc (suc zero)) (a, x) (b, y) = absurd (omega arith)
+lowest_7_2 (suc (suc (suc d))) (a, x) (b, y) = absurd (low b y)
   where
     low : (b : ℕ) → 2 ≡ b * suc (suc (suc d)) → ⊥
     low zero e = omega arith

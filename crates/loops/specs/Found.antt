@@ -3,13 +3,13 @@
 --   FoundFirst S A n len at rules   == the first loop of the kind A, read from transition at, is the first len rules; len is 0 where there is none
 --   numbers list js                 == the numbers of the rules at the places js of the list
 --   Routed                          == the rules written so far, and those still to be followed, are the whole walk
---   route-step, route-ends          the loop that writes them
+--   route_step, route_ends          the loop that writes them
 --   Looped, FoundIn T list n len at rules   == the same of the listed rules alone, each written by its number in the list
 --   NoneBelow T v                   == no loop starts below v
---   none-struck, none-far           nor at v, where v was struck or no walk comes back to it
+--   none_struck, none_far           nor at v, where v was struck or no walk comes back to it
 --   Ready, ready                    == what is asked before a walk is followed, and that it holds
 --   found_here, found_none          a loop was found; none was
---   found-kind                      the first loop of the listed rules is the first of their kind
+--   found_kind                      the first loop of the listed rules is the first of their kind
 use Rattle.std.specs.Prelude.{◌≡◌, refl, ◌≢◌, length, get_or, set}
 use Rattle.std.proofs.Common.{sym, ◌∙◌, add-one}
 use Rattle.std.proofs.Math.Path.{subst}
@@ -23,21 +23,21 @@ use Rattle.std.proofs.Math.Seq.{take-suc-set}
 use Rattle.model.specs.Shape.{Shape, Fits}
 use Rattle.model.specs.Loop.{Loop}
 use Rattle.model.specs.Walk.{Walk}
-use Rattle.theory.specs.Loop.{loop-short, loop-start}
+use Rattle.theory.specs.Loop.{loop_short, loop_start}
 use Rattle.theory.specs.First.{KindLoop, FirstLoop}
-use Rattle.theory.specs.Near.{Any, picked_none, picked_first, closed-first}
+use Rattle.theory.specs.Near.{Any, picked_none, picked_first, closed_first}
 use Rattle.columns.specs.Columns.{shape, Limits}
 use Rattle.peel.specs.Plain.{plain}
-use Rattle.peel.specs.Peel.{Stays, loop-remnant}
-use Rattle.peel.specs.Peeling.{Peeled, peeled-none}
-use Rattle.loops.specs.Listed.{Listed, Gathered, picks, limits-within}
-use Rattle.distances.specs.Near.{Near, Settled, near-least, near-short}
-use Rattle.loops.specs.Ways.{Ways, followed, followed-first, Steps}
+use Rattle.peel.specs.Peel.{Stays, loop_remnant}
+use Rattle.peel.specs.Peeling.{Peeled, peeled_none}
+use Rattle.loops.specs.Listed.{Listed, Gathered, picks, limits_within}
+use Rattle.distances.specs.Near.{Near, Settled, near_least, near_short}
+use Rattle.loops.specs.Ways.{Ways, followed, followed_first, Steps}
 
 -- the first loop of the kind A has len rules, those that stand first, and is read from at; there is none where len is 0
 pub record FoundFirst (S : Shape) (A : ℕ → Type 0) (n len at : ℕ) (rules : List ℕ) : Type 0 where
   pub short : len ≤ n
-  pub at-below : at < n
+  pub at_below : at < n
   pub none : len ≡ 0 → (u : ℕ) (rs : List ℕ) → ¬ (KindLoop S A u rs)
   pub some : 0 < len → FirstLoop S A at (take len rules)
 
@@ -50,18 +50,18 @@ abbrev pub Routed : List ℕ → List ℕ → List ℕ → ℕ → ℕ → ℕ �
 Routed target list next v k i u rules = take i rules ++ numbers list (followed target next u (k - i)) ≡ numbers list (followed target next v k)
 
 module _ (target list next : List ℕ) (v k : ℕ) where
-  pub route-step : (i u : ℕ) (rules : List ℕ) (j x w : ℕ) → Routed target list next v k i u rules → i < k → i < length rules → j ≡ get_or next u 0 → x ≡ get_or list j 0 → w ≡ get_or target j 0
+  pub route_step : (i u : ℕ) (rules : List ℕ) (j x w : ℕ) → Routed target list next v k i u rules → i < k → i < length rules → j ≡ get_or next u 0 → x ≡ get_or list j 0 → w ≡ get_or target j 0
       → Routed target list next v k (i + 1) w (set rules i x)
   unfolding followed
-  route-step i u rules j x w h l room ej ex ew =
+  route_step i u rules j x w h l room ej ex ew =
       let left : k - i ≡ suc (k - suc i) = omega arith in
       let now : take i rules ++ numbers list (followed target next u (suc (k - suc i))) ≡ numbers list (followed target next v k) = rw left at h in
       let front : take (suc i) (set rules i x) ≡ take i rules ++ (x ∷ []) = take-suc-set rules i x room in
       rw (add-one, front, append_assoc, ew, ex, ej) now
 
-  pub route-ends : (i u : ℕ) (rules : List ℕ) → Routed target list next v k i u rules → i ≡ k → take k rules ≡ numbers list (followed target next v k)
+  pub route_ends : (i u : ℕ) (rules : List ℕ) → Routed target list next v k i u rules → i ≡ k → take k rules ≡ numbers list (followed target next v k)
   unfolding followed
-  route-ends i u rules h e =
+  route_ends i u rules h e =
       let left : k - i ≡ 0 = omega arith in
       let now : take i rules ++ [] ≡ numbers list (followed target next v k) = rw left at h in
       subst (λ x. take x rules ≡ numbers list (followed target next v k)) e (sym (append-nil (take i rules)) ∙ now)
@@ -75,7 +75,7 @@ pub record Looped (T : Shape) (list : List ℕ) (len at : ℕ) (rules : List ℕ
 -- the same of the listed rules alone
 pub record FoundIn (T : Shape) (list : List ℕ) (n len at : ℕ) (rules : List ℕ) : Type 0 where
   pub short : len ≤ n
-  pub at-below : at < n
+  pub at_below : at < n
   pub none : len ≡ 0 → (u : ℕ) (js : List ℕ) → ¬ (Loop T u js)
   pub some : 0 < len → Looped T list len at rules
 
@@ -88,12 +88,12 @@ module _ (T : Shape) (v : ℕ) (below : NoneBelow T v) where
   none_here here w js l = by_cases (ℕ_discrete w v) (λ e. rw e (here js)) (λ d. below w js (omega arith))
 
   -- a struck transition is on no loop
-  pub none-struck : (alive : List ℕ) → Stays T alive → get_or alive v 0 ≢ 1 → NoneBelow T (v + 1)
-  none-struck alive stays n = none_here (λ js l. n (stays v (record { walk = js; some-rule = l.some-rule; closed = l.closed })))
+  pub none_struck : (alive : List ℕ) → Stays T alive → get_or alive v 0 ≢ 1 → NoneBelow T (v + 1)
+  none_struck alive stays n = none_here (λ js l. n (stays v (record { walk = js; some_rule = l.some_rule; closed = l.closed })))
 
   -- nor is one from which no walk comes back
-  pub none-far : (n : ℕ) (d : List ℕ) → Fits T n → n ≤ 256 → Settled T v d → 512 ≤ get_or d v 0 → NoneBelow T (v + 1)
-  none-far n d fits few settled far = none_here (λ js l. omega (arith, loop-short T n fits v js l, near-least T v d settled v js l.some-rule l.closed))
+  pub none_far : (n : ℕ) (d : List ℕ) → Fits T n → n ≤ 256 → Settled T v d → 512 ≤ get_or d v 0 → NoneBelow T (v + 1)
+  none_far n d fits few settled far = none_here (λ js l. omega (arith, loop_short T n fits v js l, near_least T v d settled v js l.some_rule l.closed))
 
 -- what the code asks before it follows a walk of k rules from v
 pub record Ready (target next : List ℕ) (v k : ℕ) : Type 0 where
@@ -104,13 +104,13 @@ pub record Ready (target next : List ℕ) (v k : ℕ) : Type 0 where
 module _ (source target : List ℕ) (len n v : ℕ) (d next : List ℕ) (limits : Limits source target [] len n) (below : v < n)
     (near : Near (plain source target len) v d) (settled : Settled (plain source target len) v d) (ways : Ways (plain source target len) v d 0 next) (found : get_or d v 0 < 512) where
   inside : v < 256
-  inside = omega (arith, limits.few-transitions)
+  inside = omega (arith, limits.few_transitions)
 
   short : get_or d v 0 ≤ n
-  short = near-short (plain source target len) n v d limits.fits near settled inside found
+  short = near_short (plain source target len) n v d limits.fits near settled inside found
 
-  some-rules : 0 < len
-  some-rules = let w = near.attained v inside found in first w.walk (omega (arith, w.size, w.some-rule)) w.walks
+  some_rules : 0 < len
+  some_rules = let w = near.attained v inside found in first w.walk (omega (arith, w.size, w.some_rule)) w.walks
     where
       first : (rs : List ℕ) → 0 < length rs → Walk (plain source target len) v v rs → 0 < len
       first [] l h = absurd (omega arith)
@@ -120,23 +120,23 @@ module _ (source target : List ℕ) (len n v : ℕ) (d next : List ℕ) (limits 
   ready =
       record {
         start = inside;
-        short = omega (arith, short, limits.few-transitions);
-        steps = λ u b. let r = ways.below some-rules u in (omega (arith, r, limits.few-rules), omega (arith, limits.fits (get_or next u 0) r, limits.few-transitions));
+        short = omega (arith, short, limits.few_transitions);
+        steps = λ u b. let r = ways.below some_rules u in (omega (arith, r, limits.few_rules), omega (arith, limits.fits (get_or next u 0) r, limits.few_transitions));
       }
 
   pub found_here : (list rules : List ℕ) → NoneBelow (plain source target len) v → take (get_or d v 0) rules ≡ numbers list (followed target next v (get_or d v 0))
       → FoundIn (plain source target len) list n (get_or d v 0) v rules
   found_here list rules none names =
       let w = near.attained v inside found in
-      record { short = short; at-below = below; none = λ e. absurd (omega (arith, w.some-rule)); some = λ l. looped (get_or d v 0) refl names }
+      record { short = short; at_below = below; none = λ e. absurd (omega (arith, w.some_rule)); some = λ l. looped (get_or d v 0) refl names }
     where
       looped : (k : ℕ) → get_or d v 0 ≡ k → take k rules ≡ numbers list (followed target next v k) → Looped (plain source target len) list k v rules
-      looped zero e h = absurd (omega (arith, (near.attained v inside found).some-rule))
+      looped zero e h = absurd (omega (arith, (near.attained v inside found).some_rule))
       looped (suc k) e h =
           record {
             places = followed target next v (suc k);
-            first = closed-first (plain source target len) n limits.fits v k (followed target next v (suc k)) (λ qs some q. omega (arith, e, near-least (plain source target len) v d settled v qs some q))
-                (followed-first source target len v d next (limits-within source target len n limits) near settled ways k v inside (omega arith) e) none;
+            first = closed_first (plain source target len) n limits.fits v k (followed target next v (suc k)) (λ qs some q. omega (arith, e, near_least (plain source target len) v d settled v qs some q))
+                (followed_first source target len v d next (limits_within source target len n limits) near settled ways k v inside (omega arith) e) none;
             names = h;
           }
 
@@ -145,34 +145,34 @@ pub found_none : (source target list : List ℕ) (len n v : ℕ) (rules : List �
 found_none source target list len n v rules limits below l =
     record {
       short = omega arith;
-      at-below = limits.some-transition;
-      none = λ e u js h. below u js (omega (arith, loop-start (plain source target len) n limits.fits u js h)) h;
+      at_below = limits.some_transition;
+      none = λ e u js h. below u js (omega (arith, loop_start (plain source target len) n limits.fits u js h)) h;
       some = λ z. absurd (omega arith);
     }
 
 -- nothing remains: there is no loop
-pub found-peeled : (source target list : List ℕ) (len n : ℕ) (alive : List ℕ) (k : ℕ) (rules : List ℕ) → Limits source target [] len n
+pub found_peeled : (source target list : List ℕ) (len n : ℕ) (alive : List ℕ) (k : ℕ) (rules : List ℕ) → Limits source target [] len n
     → Peeled (plain source target len) n alive k → n ≤ k → FoundIn (plain source target len) list n 0 0 rules
-found-peeled source target list len n alive k rules limits p l =
+found_peeled source target list len n alive k rules limits p l =
     record {
       short = omega arith;
-      at-below = limits.some-transition;
+      at_below = limits.some_transition;
       none = λ e u js h.
-          let v = loop-start (plain source target len) n limits.fits u js h in
-          peeled-none (plain source target len) n alive k p l u v (loop-remnant (plain source target len) n limits.fits limits.few-transitions alive p.remnant u js h);
+          let v = loop_start (plain source target len) n limits.fits u js h in
+          peeled_none (plain source target len) n alive k p l u v (loop_remnant (plain source target len) n limits.fits limits.few_transitions alive p.remnant u js h);
       some = λ z. absurd (omega arith);
     }
 
 -- the first loop of the listed rules is the first of their kind
-pub found-kind : (source target offset list from to : List ℕ) (m size : ℕ) → Gathered source list size from → Gathered target list size to → (A : ℕ → Type 0) → Listed A list size m
+pub found_kind : (source target offset list from to : List ℕ) (m size : ℕ) → Gathered source list size from → Gathered target list size to → (A : ℕ → Type 0) → Listed A list size m
     → (n len at : ℕ) (rules : List ℕ) → FoundIn (plain from to size) list n len at rules → FoundFirst (shape source target offset m) A n len at rules
-found-kind source target offset list from to m size gf gt A h n len at rules f =
+found_kind source target offset list from to m size gf gt A h n len at rules f =
     let S = shape source target offset m in
     let T = plain from to size in
     let p = picks source target offset list from to m size gf gt A h in
     record {
       short = f.short;
-      at-below = f.at-below;
+      at_below = f.at_below;
       none = λ e. picked_none A S T (λ j. get_or list j 0) p (f.none e);
       some = λ l. let g = f.some l in rw g.names (picked_first A S T (λ j. get_or list j 0) p at g.places g.first);
     }

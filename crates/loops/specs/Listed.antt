@@ -1,13 +1,13 @@
 -- The rules of a kind, listed by number, and the columns of the listed rules only.
 --
 --   Listed A list len m            == the first len places of the list hold the rules below m of the kind A, lowest first
---   listed-none, listed-add, listed-past, listed-skip   the loop that lists them
---   listed-few                     every listed number is the number of a rule of the columns
+--   listed_none, listed_add, listed_past, listed_skip   the loop that lists them
+--   listed_few                     every listed number is the number of a rule of the columns
 --   Gathered column list len xs    == place j of xs holds the column's entry for rule j of the list
---   gathered-add                   the loop that gathers them
+--   gathered_add                   the loop that gathers them
 --   picks                          gathered columns say the shape of the listed rules
 --   Within from to len             == the two ends of every rule are below 256
---   limits-picked, limits-within, limits-most   what the limits of the whole list give
+--   limits_picked, limits_within, limits_most   what the limits of the whole list give
 use Rattle.std.specs.Prelude.{◌≡◌, List, [], ℕ, ◌+◌, ◌≤◌, ◌<◌, length, get_or, set}
 use Rattle.std.proofs.Common.{sym, ◌∙◌, arith, get_or-set_same, get_or-set_other}
 use Rattle.std.proofs.Math.Logic.{by_cases}
@@ -25,12 +25,12 @@ pub record Listed (A : ℕ → Type 0) (list : List ℕ) (len m : ℕ) : Type 0 
   pub all : (r : ℕ) → r < m → A r → (j : ℕ) × (j < len) × (get_or list j 0 ≡ r)
 
 module _ (A : ℕ → Type 0) (list : List ℕ) where
-  pub listed-none : Listed A list 0 0
-  listed-none =
+  pub listed_none : Listed A list 0 0
+  listed_none =
       record { few = omega arith; below = λ j l. absurd (omega arith); kind = λ j l. absurd (omega arith); ascending = λ i j h l. absurd (omega arith); all = λ r l a. absurd (omega arith) }
 
-  pub listed-skip : (len r : ℕ) → Listed A list len r → ¬ (A r) → Listed A list len (r + 1)
-  listed-skip len r h n =
+  pub listed_skip : (len r : ℕ) → Listed A list len r → ¬ (A r) → Listed A list len (r + 1)
+  listed_skip len r h n =
       record {
         few = omega (arith, h.few);
         below = λ j l. omega (arith, h.below j l);
@@ -40,29 +40,29 @@ module _ (A : ℕ → Type 0) (list : List ℕ) where
       }
 
   -- the places before stay as they were
-  kept-before : (len r j : ℕ) → j < len → get_or (set list len r) j 0 ≡ get_or list j 0
-  kept-before len r j l = get_or-set_other list len j r 0 (λ e. omega arith)
+  kept_before : (len r j : ℕ) → j < len → get_or (set list len r) j 0 ≡ get_or list j 0
+  kept_before len r j l = get_or-set_other list len j r 0 (λ e. omega arith)
 
   -- what stands past them does not count
-  pub listed-past : (len m x : ℕ) → Listed A list len m → Listed A (set list len x) len m
-  listed-past len m x h =
+  pub listed_past : (len m x : ℕ) → Listed A list len m → Listed A (set list len x) len m
+  listed_past len m x h =
       record {
         few = h.few;
-        below = λ j l. omega (arith, kept-before len x j l, h.below j l);
-        kind = λ j l. rw (kept-before len x j l) (h.kind j l);
-        ascending = λ i j s l. omega (arith, kept-before len x i (omega arith), kept-before len x j l, h.ascending i j s l);
-        all = λ q l a. let t = h.all q l a in (t.0, t.1, kept-before len x t.0 t.1 ∙ t.2);
+        below = λ j l. omega (arith, kept_before len x j l, h.below j l);
+        kind = λ j l. rw (kept_before len x j l) (h.kind j l);
+        ascending = λ i j s l. omega (arith, kept_before len x i (omega arith), kept_before len x j l, h.ascending i j s l);
+        all = λ q l a. let t = h.all q l a in (t.0, t.1, kept_before len x t.0 t.1 ∙ t.2);
       }
 
   module _ (len r : ℕ) (h : Listed A list len r) (a : A r) (room : len < length list) where
     kept : (j : ℕ) → j < len → get_or (set list len r) j 0 ≡ get_or list j 0
-    kept = kept-before len r
+    kept = kept_before len r
 
     last : get_or (set list len r) len 0 ≡ r
     last = get_or-set_same list len r 0 room
 
-    pub listed-add : Listed A (set list len r) (len + 1) (r + 1)
-    listed-add =
+    pub listed_add : Listed A (set list len r) (len + 1) (r + 1)
+    listed_add =
         record {
           few = omega (arith, h.few);
           below = λ j l. by_cases (ℕ_discrete j len) (λ e. rw (e, last) (omega arith)) (λ d. let b : j < len = omega arith in omega (arith, kept j b, h.below j b));
@@ -78,54 +78,54 @@ module _ (A : ℕ → Type 0) (list : List ℕ) where
         }
 
 -- every listed number is the number of a rule of the columns
-pub listed-few : (A : ℕ → Type 0) (list : List ℕ) (len m : ℕ) → Listed A list len m → m ≤ 2048 → (len ≤ 2048) × ((j : ℕ) → j < len → get_or list j 0 < 2048)
-listed-few A list len m h b = (omega (arith, h.few), λ j l. omega (arith, h.below j l))
+pub listed_few : (A : ℕ → Type 0) (list : List ℕ) (len m : ℕ) → Listed A list len m → m ≤ 2048 → (len ≤ 2048) × ((j : ℕ) → j < len → get_or list j 0 < 2048)
+listed_few A list len m h b = (omega (arith, h.few), λ j l. omega (arith, h.below j l))
 
 -- place j of xs holds the column's entry for rule j of the list
 abbrev pub Gathered : List ℕ → List ℕ → ℕ → List ℕ → Type 0
 Gathered column list len xs = (j : ℕ) → j < len → get_or xs j 0 ≡ get_or column (get_or list j 0) 0
 
-pub gathered-add : (column list xs : List ℕ) (j x : ℕ) → Gathered column list j xs → j < length xs → x ≡ get_or column (get_or list j 0) 0 → Gathered column list (j + 1) (set xs j x)
-gathered-add column list xs j x g room e i l =
+pub gathered_add : (column list xs : List ℕ) (j x : ℕ) → Gathered column list j xs → j < length xs → x ≡ get_or column (get_or list j 0) 0 → Gathered column list (j + 1) (set xs j x)
+gathered_add column list xs j x g room e i l =
     by_cases (ℕ_discrete i j)
     (λ s. rw (s, get_or-set_same xs j x 0 room) e)
     (λ d. get_or-set_other xs j i x 0 d ∙ g i (omega arith))
 
 module _ (source target offset list from to : List ℕ) (m len : ℕ) (gf : Gathered source list len from) (gt : Gathered target list len to) where
   pub picks : (A : ℕ → Type 0) → Listed A list len m → Picks A (shape source target offset m) (plain from to len) (λ j. get_or list j 0)
-  picks A h = record { is-rule = h.below; kind = h.kind; source_is = gf; target_is = gt; ascending = h.ascending; all = h.all }
+  picks A h = record { is_rule = h.below; kind = h.kind; source_is = gf; target_is = gt; ascending = h.ascending; all = h.all }
 
-  pub limits-picked : (A : ℕ → Type 0) (n : ℕ) → Listed A list len m → Limits source target offset m n → Limits from to [] len n
-  limits-picked A n h l =
+  pub limits_picked : (A : ℕ → Type 0) (n : ℕ) → Listed A list len m → Limits source target offset m n → Limits from to [] len n
+  limits_picked A n h l =
       record {
-        few-rules = omega (arith, h.few, l.few-rules);
-        some-transition = l.some-transition;
-        few-transitions = l.few-transitions;
+        few_rules = omega (arith, h.few, l.few_rules);
+        some_transition = l.some_transition;
+        few_transitions = l.few_transitions;
         fits = λ j b. let f = l.fits (get_or list j 0) (h.below j b) in (omega (arith, gf j b, f), omega (arith, gt j b, f));
-        small-offsets = λ r b. omega arith;
+        small_offsets = λ r b. omega arith;
       }
 
 -- there is room for the rules, and their two ends are below 256
 pub record Within (from to : List ℕ) (len : ℕ) : Type 0 where
   pub few : len ≤ 2048
-  pub from-below : (j : ℕ) → j < len → get_or from j 0 < 256
+  pub from_below : (j : ℕ) → j < len → get_or from j 0 < 256
   pub to_below : (j : ℕ) → j < len → get_or to j 0 < 256
 
-pub limits-within : (from to : List ℕ) (len n : ℕ) → Limits from to [] len n → Within from to len
-limits-within from to len n l =
+pub limits_within : (from to : List ℕ) (len n : ℕ) → Limits from to [] len n → Within from to len
+limits_within from to len n l =
     record {
-      few = l.few-rules;
-      from-below = λ j b. omega (arith, l.fits j b, l.few-transitions);
-      to_below = λ j b. omega (arith, l.fits j b, l.few-transitions);
+      few = l.few_rules;
+      from_below = λ j b. omega (arith, l.fits j b, l.few_transitions);
+      to_below = λ j b. omega (arith, l.fits j b, l.few_transitions);
     }
 
 -- the limits with the highest number of transitions
-pub limits-most : (source target offset : List ℕ) (m n : ℕ) → Limits source target offset m n → Limits source target offset m 256
-limits-most source target offset m n l =
+pub limits_most : (source target offset : List ℕ) (m n : ℕ) → Limits source target offset m n → Limits source target offset m 256
+limits_most source target offset m n l =
     record {
-      few-rules = l.few-rules;
-      some-transition = omega arith;
-      few-transitions = omega arith;
-      fits = λ r b. let f = l.fits r b in (omega (arith, l.few-transitions), omega (arith, l.few-transitions));
-      small-offsets = l.small-offsets;
+      few_rules = l.few_rules;
+      some_transition = omega arith;
+      few_transitions = omega arith;
+      fits = λ r b. let f = l.fits r b in (omega (arith, l.few_transitions), omega (arith, l.few_transitions));
+      small_offsets = l.small_offsets;
     }

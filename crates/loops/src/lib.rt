@@ -1,10 +1,10 @@
 // The first loop of a kind of rule: through the lowest transition on any of them, of fewest rules, then first in the order of rule numbers.
 ghost use Rattle.std.specs.Prelude.{◌≡◌, true, false, [], ℕ, ◌+◌, ◌-◌, ◌*◌, ◌^◌, ◌≤◌, ◌<◌, get_or, take};
 ghost use Rattle.theory.specs.Schedule.{TightRule};
-ghost use Rattle.columns.specs.Columns.{shape, delayAt, Limits, Short};
+ghost use Rattle.columns.specs.Columns.{shape, delay_at, Limits, Short};
 ghost use Rattle.peel.specs.Plain.{plain};
 ghost use Rattle.peel.specs.Peel.{Stays};
-ghost use Rattle.distances.specs.Near.{awayFrom};
+ghost use Rattle.distances.specs.Near.{away_from};
 ghost use Rattle.loops.specs.Listed.{Listed, Gathered, Within};
 ghost use Rattle.loops.specs.Ways.{Ways, followed};
 ghost use Rattle.loops.specs.Found.{numbers, Ready, FoundIn, FoundFirst};
@@ -79,7 +79,7 @@ fn tight_rules(
     requires limits { Limits source.now target.now offset.now m 256 }
     requires short { Short delay.now m }
     requires p_bound { (p ≤ 256000000) × (q ≤ 3840) × ((v : ℕ) → get_or x.now v 0 ≤ 2 ^ 62) }
-    ensures { Listed (TightRule (shape source.now target.now offset.now m) (delayAt delay.now) p q x.now) result.rules result.len m }
+    ensures { Listed (TightRule (shape source.now target.now offset.now m) (delay_at delay.now) p q x.now) result.rules result.len m }
 {
     let mut rules = [0u16; 2048];
     let mut len = 0;
@@ -117,7 +117,7 @@ fn gather(column: &[u16; 2048], list: &[u16; 2048], len: usize) -> [u16; 2048]
 
 // How far t is from v, where d is the least number of rules, 1 or more, from t to v.
 fn away(t: usize, v: usize, d: u16) -> usize
-    ensures { result ≡ awayFrom v t d }
+    ensures { result ≡ away_from v t d }
 {
     if t == v {
         return 0;
@@ -281,7 +281,7 @@ pub fn tight_loop(
     requires limits { Limits source.now target.now offset.now m n }
     requires short { Short delay.now m }
     requires p_bound { (p ≤ 256000000) × (q ≤ 3840) × ((v : ℕ) → get_or x.now v 0 ≤ 2 ^ 62) }
-    ensures { FoundFirst (shape source.now target.now offset.now m) (TightRule (shape source.now target.now offset.now m) (delayAt delay.now) p q x.now) n result.len result.at result.rules }
+    ensures { FoundFirst (shape source.now target.now offset.now m) (TightRule (shape source.now target.now offset.now m) (delay_at delay.now) p q x.now) n result.len result.at result.rules }
 {
     let kind = tight_rules(source, target, offset, delay, m, p, q, x);
     let list = kind.rules;

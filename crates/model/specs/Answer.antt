@@ -12,15 +12,15 @@ use Rattle.model.specs.Reported.{Reported}
 
 pub record Answer : Type 0 where
   pub ends : Range
-  pub lowLoop : List ℕ
-  pub highLoop : List ℕ
+  pub low_loop : List ℕ
+  pub high_loop : List ℕ
   pub schedule : List ℕ
 
 -- the low loop is the reported loop with every delay at its least, the high loop with every delay at its greatest; so is the schedule
 pub record Answers (S : Shape) (K : Ranges) (n : ℕ) (a : Answer) : Type 0 where
   pub ends : RangeOf S K (Period S) a.ends
-  pub low-at : ℕ
-  pub low-loop : Reported S K.least a.ends.lowP a.ends.lowQ low-at a.lowLoop
-  pub high-at : ℕ
-  pub high-loop : Reported S K.greatest a.ends.highP a.ends.highQ high-at a.highLoop
-  pub schedule : LeastSchedule S K.greatest n a.ends.highP a.ends.highQ a.schedule
+  pub low_at : ℕ
+  pub low_loop : Reported S K.least a.ends.low_p a.ends.low_q low_at a.low_loop
+  pub high_at : ℕ
+  pub high_loop : Reported S K.greatest a.ends.high_p a.ends.high_q high_at a.high_loop
+  pub schedule : LeastSchedule S K.greatest n a.ends.high_p a.ends.high_q a.schedule

@@ -35,16 +35,16 @@ abbrev pub Exact : ℕ → ℕ → ℕ → ℕ → Bool → Type 0
 Exact P Q P' Q' e = ((P ≡ P') × (Q ≡ Q') × (e ≡ true)) ⊎ (¬ ((P ≡ P') × (Q ≡ Q')) × (e ≡ false))
 
 pub record Range : Type 0 where
-  pub lowP : ℕ
-  pub lowQ : ℕ
-  pub highP : ℕ
-  pub highQ : ℕ
+  pub low_p : ℕ
+  pub low_q : ℕ
+  pub high_p : ℕ
+  pub high_q : ℕ
   pub exact : Bool
 
 pub record RangeOf (S : Shape) (K : Ranges) (M : Measure) (a : Range) : Type 0 where
-  pub low : LowEnd S K M a.lowP a.lowQ
-  pub high : HighEnd S K M a.highP a.highQ
-  pub meet : Exact a.lowP a.lowQ a.highP a.highQ a.exact
+  pub low : LowEnd S K M a.low_p a.low_q
+  pub high : HighEnd S K M a.high_p a.high_q
+  pub meet : Exact a.low_p a.low_q a.high_p a.high_q a.exact
 
 abbrev pub Narrows : Shape → Ranges → Ranges → Type 0
 Narrows S K K' = (r : ℕ) → r < S.rules → (K.least r ≤ K'.least r) × (K'.greatest r ≤ K.greatest r)

@@ -9,5 +9,5 @@ use Rattle.model.specs.Loop.{Loop}
 pub record Knot (S : Shape) (u : ℕ) : Type 0 where
   pub loop : List ℕ
   pub is_loop : Loop S u loop
-  pub no-turn : offsets S loop ≡ 0
+  pub no_turn : offsets S loop ≡ 0
   pub lowest : (w : ℕ) (qs : List ℕ) → Loop S w qs → offsets S qs ≡ 0 → u ≤ w

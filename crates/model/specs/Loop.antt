@@ -12,7 +12,7 @@ use Rattle.model.specs.Walk.{Walk, sources}
 
 -- a non-empty sequence of rules, each starting where the one before ended, the last ending where the first started, that visits no transition twice
 pub record Loop (S : Shape) (u : ℕ) (rs : List ℕ) : Type 0 where
-  pub some-rule : 0 < length rs
+  pub some_rule : 0 < length rs
   pub closed : Walk S u u rs
   pub simple : Distinct (sources S rs)
 

@@ -21,7 +21,7 @@ Above S D P Q rs = P * offsets S rs < Q * delays D rs
 
 -- a loop that has a turn attains P/Q, and no loop is above it
 pub record Period (S : Shape) (D : ℕ → ℕ) (P Q : ℕ) : Type 0 where
-  pub Q-pos : 0 < Q
+  pub q_pos : 0 < Q
   pub at : ℕ
   pub loop : List ℕ
   pub is_loop : Loop S at loop

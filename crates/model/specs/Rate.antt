@@ -28,17 +28,17 @@ pub record LoopTo (S : Shape) (v u : ℕ) (rs : List ℕ) : Type 0 where
 pub record SomeLoopTo (S : Shape) (v : ℕ) : Type 0 where
   pub at : ℕ
   pub loop : List ℕ
-  pub is-loop-to : LoopTo S v at loop
+  pub is_loop_to : LoopTo S v at loop
 
 abbrev pub NoLoopTo : Shape → ℕ → Type 0
 NoLoopTo S v = (u : ℕ) (rs : List ℕ) → ¬ (LoopTo S v u rs)
 
 -- a loop that reaches v and has a turn attains P/Q, and no loop that reaches v is above it
 pub record Rate (S : Shape) (D : ℕ → ℕ) (v P Q : ℕ) : Type 0 where
-  pub Q-pos : 0 < Q
+  pub q_pos : 0 < Q
   pub at : ℕ
   pub loop : List ℕ
-  pub is-loop-to : LoopTo S v at loop
+  pub is_loop_to : LoopTo S v at loop
   pub turns : 0 < offsets S loop
   pub attained : Attains S D P Q loop
   pub highest : (u : ℕ) (rs : List ℕ) → LoopTo S v u rs → NotAbove S D P Q rs

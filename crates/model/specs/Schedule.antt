@@ -14,5 +14,5 @@ pub record Schedule (S : Shape) (D : ℕ → ℕ) (n P Q : ℕ) (X : List ℕ) :
   pub keeps : Keeps S D P Q X
 
 pub record LeastSchedule (S : Shape) (D : ℕ → ℕ) (n P Q : ℕ) (X : List ℕ) : Type 0 where
-  pub is-schedule : Schedule S D n P Q X
+  pub is_schedule : Schedule S D n P Q X
   pub least : (Y : List ℕ) → Schedule S D n P Q Y → (v : ℕ) → v < n → get_or X v 0 ≤ get_or Y v 0

@@ -10,7 +10,7 @@ use Rattle.model.specs.Shape.{Shape}
 
 -- it goes to v, and occurrence i is no earlier than its offset
 pub record Acts (S : Shape) (i v r : ℕ) : Type 0 where
-  pub is-rule : r < S.rules
+  pub is_rule : r < S.rules
   pub target : S.target r ≡ v
   pub reached : S.offset r ≤ i
 
@@ -25,8 +25,8 @@ pub record Cause (S : Shape) (D : ℕ → ℕ) (T : ℕ → ℕ → ℕ) (i v : 
   pub exact : T i v ≡ asked S D T i rule
 
 pub record IsTime (S : Shape) (D : ℕ → ℕ) (T : ℕ → ℕ → ℕ) (i v : ℕ) : Type 0 where
-  pub late-enough : (r : ℕ) → Acts S i v r → asked S D T i r ≤ T i v
-  pub no-later : (T i v ≡ 0) ⊎ Cause S D T i v
+  pub late_enough : (r : ℕ) → Acts S i v r → asked S D T i r ≤ T i v
+  pub no_later : (T i v ≡ 0) ⊎ Cause S D T i v
 
 abbrev pub AreTimes : Shape → (ℕ → ℕ) → ℕ → ℕ → (ℕ → ℕ → ℕ) → Type 0
 AreTimes S D N n T = (i v : ℕ) → i < N → v < n → IsTime S D T i v

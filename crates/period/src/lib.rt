@@ -1,6 +1,6 @@
 // The period library: the analysis of a table into lent buffers, and the rate of one transition.
 ghost use Rattle.std.specs.Prelude.{◌≡◌, ◌++◌, ◌≤◌, length, take, drop};
-ghost use Rattle.period.specs.Promise.{outcome, refusedAnalysis, AnalysisOf};
+ghost use Rattle.period.specs.Promise.{outcome, refused_analysis, AnalysisOf};
 // The two ends of a transition's rate: the call of `rates` as it is.
 pub use rates::rate;
 use table::Table;
@@ -28,7 +28,7 @@ const RANGE: u32 = 3;
 const ROOM: u32 = 8;
 
 fn refused(refusal: u32, place: usize) -> Analysis
-    ensures { result ≡ refusedAnalysis refusal place }
+    ensures { result ≡ refused_analysis refusal place }
 {
     let none = End { p: 0, q: 0, len: 0 };
     Analysis {

@@ -1,14 +1,14 @@
 -- The rules whose targets reach v, gathered by the distances to it.
 --
---   limits-plain              the limits, whatever the offsets
+--   limits_plain              the limits, whatever the offsets
 --   Near target v dist r      == the target of rule r is v, or has a distance below 512 to it
---   Counts t v d k            == k is 1 where a rule into t is one of them, else 0; counts-most
+--   Counts t v d k            == k is 1 where a rule into t is one of them, else 0; counts_most
 --   Filled column list len xs == xs has room for all rules, and its first len places hold the column's entries for the rules of the list
 --   Taken .. i .. len         == the columns hold, in their first len places, those of the first i rules that are near
 --   taken_none, taken_next    the loop that gathers them
---   reaches, reaches-not      the transitions with a distance, and v, reach v; no other does
---   gathers, gathers-as-they-are   so they are the rules whose targets reach v; where every transition reaches v, all are
---   limits-gathered, ordered-gathered   they are within the limits
+--   reaches, reaches_not      the transitions with a distance, and v, reach v; no other does
+--   gathers, gathers_as_they_are   so they are the rules whose targets reach v; where every transition reaches v, all are
+--   limits_gathered, ordered_gathered   they are within the limits
 use Rattle.std.specs.Prelude.{◌≡◌, refl, Bool, ◌⊎◌, ◌≢◌, List, [], ◌∷◌, ℕ, suc, ◌+◌, ◌≤◌, ◌<◌, length, get_or, set, replicate}
 use Rattle.std.proofs.Common.{sym, ap, ◌∙◌, subst, inl, inr, ⊎_elim, arith, length-set, get_or-set_same, get_or-set_other}
 use Rattle.std.proofs.Math.Logic.{by_cases}
@@ -16,18 +16,18 @@ use Rattle.std.proofs.Math.Decide.{ℕ_discrete, dec_lt}
 use Rattle.std.proofs.lemmas.List.{length-replicate}
 use Rattle.model.specs.Walk.{Walk}
 use Rattle.model.specs.Rate.{Reaches}
-use Rattle.theory.specs.Walk.{path-short, LoopAbove, Shortened, shorten}
+use Rattle.theory.specs.Walk.{path_short, LoopAbove, Shortened, shorten}
 use Rattle.theory.specs.Rate.{reach_here}
-use Rattle.theory.specs.Gather.{Reaching, Gathers, gathers-all}
+use Rattle.theory.specs.Gather.{Reaching, Gathers, gathers_all}
 use Rattle.columns.specs.Columns.{shape, Limits, Ordered}
 use Rattle.peel.specs.Plain.{plain}
-use Rattle.loops.specs.Listed.{Listed, listed-none, listed-skip, listed-add, Gathered}
-use Rattle.distances.specs.Near.{near-least}
+use Rattle.loops.specs.Listed.{Listed, listed_none, listed_skip, listed_add, Gathered}
+use Rattle.distances.specs.Near.{near_least}
 use Rattle.distances.specs.Queue.{Sought}
 
-pub limits-plain : (source target offset : List ℕ) (m n : ℕ) → Limits source target offset m n → Limits source target [] m n
-limits-plain source target offset m n l =
-    record { few-rules = l.few-rules; some-transition = l.some-transition; few-transitions = l.few-transitions; fits = l.fits; small-offsets = λ r b. omega arith }
+pub limits_plain : (source target offset : List ℕ) (m n : ℕ) → Limits source target offset m n → Limits source target [] m n
+limits_plain source target offset m n l =
+    record { few_rules = l.few_rules; some_transition = l.some_transition; few_transitions = l.few_transitions; fits = l.fits; small_offsets = λ r b. omega arith }
 
 abbrev pub Near : List ℕ → ℕ → List ℕ → ℕ → Type 0
 Near target v dist r = (get_or target r 0 ≡ v) ⊎ (get_or dist (get_or target r 0) 0 < 512)
@@ -35,17 +35,17 @@ Near target v dist r = (get_or target r 0 ≡ v) ⊎ (get_or dist (get_or target
 abbrev pub Counts : ℕ → ℕ → ℕ → ℕ → Type 0
 Counts t v d k = (((t ≡ v) ⊎ (d < 512)) × (k ≡ 1)) ⊎ ((t ≢ v) × (512 ≤ d) × (k ≡ 0))
 
-pub counts-most : (t v d k : ℕ) → Counts t v d k → k ≤ 1
-counts-most t v d k (inl c) = omega (arith, c.1)
-counts-most t v d k (inr c) = omega (arith, c.2)
+pub counts_most : (t v d k : ℕ) → Counts t v d k → k ≤ 1
+counts_most t v d k (inl c) = omega (arith, c.1)
+counts_most t v d k (inr c) = omega (arith, c.2)
 
 -- ------------------------------------------------------------------------------------------------------------------------------ the loop that gathers
 
 abbrev pub Filled : List ℕ → List ℕ → ℕ → List ℕ → Type 0
 Filled column list len xs = (length xs ≡ 2048) × Gathered column list len xs
 
-filled-past : (column list xs : List ℕ) (len x : ℕ) → Filled column list len xs → Filled column list len (set xs len x)
-filled-past column list xs len x h = (simp length-set h.0, λ j l. get_or-set_other xs len j x 0 (λ e. omega arith) ∙ h.1 j l)
+filled_past : (column list xs : List ℕ) (len x : ℕ) → Filled column list len xs → Filled column list len (set xs len x)
+filled_past column list xs len x h = (simp length-set h.0, λ j l. get_or-set_other xs len j x 0 (λ e. omega arith) ∙ h.1 j l)
 
 filled_next : (column list xs : List ℕ) (len i : ℕ) → Filled column list len xs → length list ≡ 2048 → len < 2048
     → Filled column (set list len i) (len + 1) (set xs len (get_or column i 0))
@@ -75,7 +75,7 @@ module _ (source target offset least greatest : List ℕ) (v : ℕ) (dist : List
       record {
         list = replicate 2048 0;
         room = length-replicate {A = ℕ} 2048 0;
-        listed = listed-none (Near target v dist) (replicate 2048 0);
+        listed = listed_none (Near target v dist) (replicate 2048 0);
         sources = nothing source;
         targets = nothing target;
         offsets = nothing offset;
@@ -88,14 +88,14 @@ module _ (source target offset least greatest : List ℕ) (v : ℕ) (dist : List
     near_by : (t : ℕ) → t ≡ get_or target i 0 → ((t ≡ v) ⊎ (get_or dist t 0 < 512)) → Near target v dist i
     near_by t e n = rw e at n
 
-    taken-near : Near target v dist i
+    taken_near : Near target v dist i
         → Taken source target offset least greatest v dist (i + 1) (set from len (get_or source i 0)) (set to len (get_or target i 0)) (set off len (get_or offset i 0)) (set low len (get_or least i 0)) (set high len (get_or greatest i 0)) (len + 1)
-    taken-near n =
+    taken_near n =
         let b : len < 2048 = omega (arith, h.listed.few) in
         record {
           list = set h.list len i;
           room = simp length-set h.room;
-          listed = listed-add (Near target v dist) h.list len i h.listed n (omega (arith, h.room));
+          listed = listed_add (Near target v dist) h.list len i h.listed n (omega (arith, h.room));
           sources = filled_next source h.list from len i h.sources h.room b;
           targets = filled_next target h.list to len i h.targets h.room b;
           offsets = filled_next offset h.list off len i h.offsets h.room b;
@@ -103,59 +103,59 @@ module _ (source target offset least greatest : List ℕ) (v : ℕ) (dist : List
           greatests = filled_next greatest h.list high len i h.greatests h.room b;
         }
 
-    taken-far : ¬ (Near target v dist i)
+    taken_far : ¬ (Near target v dist i)
         → Taken source target offset least greatest v dist (i + 1) (set from len (get_or source i 0)) (set to len (get_or target i 0)) (set off len (get_or offset i 0)) (set low len (get_or least i 0)) (set high len (get_or greatest i 0)) len
-    taken-far n =
+    taken_far n =
         record {
           list = h.list;
           room = h.room;
-          listed = listed-skip (Near target v dist) h.list len i h.listed n;
-          sources = filled-past source h.list from len _ h.sources;
-          targets = filled-past target h.list to len _ h.targets;
-          offsets = filled-past offset h.list off len _ h.offsets;
-          leasts = filled-past least h.list low len _ h.leasts;
-          greatests = filled-past greatest h.list high len _ h.greatests;
+          listed = listed_skip (Near target v dist) h.list len i h.listed n;
+          sources = filled_past source h.list from len _ h.sources;
+          targets = filled_past target h.list to len _ h.targets;
+          offsets = filled_past offset h.list off len _ h.offsets;
+          leasts = filled_past least h.list low len _ h.leasts;
+          greatests = filled_past greatest h.list high len _ h.greatests;
         }
 
     pub taken_next : (t k : ℕ) → t ≡ get_or target i 0 → Counts t v (get_or dist t 0) k
         → Taken source target offset least greatest v dist (i + 1) (set from len (get_or source i 0)) (set to len (get_or target i 0)) (set off len (get_or offset i 0)) (set low len (get_or least i 0)) (set high len (get_or greatest i 0)) (len + k)
-    taken_next t k e (inl c) = rw c.1 (taken-near (near_by t e c.0))
+    taken_next t k e (inl c) = rw c.1 (taken_near (near_by t e c.0))
     taken_next t k e (inr c) =
         let z : len + k ≡ len = omega (arith, c.2) in
-        rw z (taken-far (⊎_elim (λ a. c.0 (e ∙ a)) (λ a. omega (arith, c.1, a, ap (λ y. get_or dist y 0) e))))
+        rw z (taken_far (⊎_elim (λ a. c.0 (e ∙ a)) (λ a. omega (arith, c.1, a, ap (λ y. get_or dist y 0) e))))
 
 -- walks do not depend on offsets
-walk-offsets : (source target o o' : List ℕ) (m u w : ℕ) (rs : List ℕ) → Walk (shape source target o m) u w rs → Walk (shape source target o' m) u w rs
-walk-offsets source target o o' m u w [] h = h
-walk-offsets source target o o' m u w (r ∷ rs) h = (h.0, h.1, walk-offsets source target o o' m (get_or target r 0) w rs h.2)
+walk_offsets : (source target o o' : List ℕ) (m u w : ℕ) (rs : List ℕ) → Walk (shape source target o m) u w rs → Walk (shape source target o' m) u w rs
+walk_offsets source target o o' m u w [] h = h
+walk_offsets source target o o' m u w (r ∷ rs) h = (h.0, h.1, walk_offsets source target o o' m (get_or target r 0) w rs h.2)
 
 module _ (source target : List ℕ) (m n v : ℕ) (limits : Limits source target [] m n) (dist : List ℕ) (k : ℕ) (far : Sought (plain source target m) n v dist k) (offset : List ℕ) where
   reaches : (t : ℕ) → t < n → get_or dist t 0 < 512 → Reaches (shape source target offset m) t v
   reaches t b l =
-      let w = far.near.attained t (omega (arith, limits.few-transitions)) l in
-      record { way = w.walk; leads = walk-offsets source target [] offset m t v w.walk w.walks }
+      let w = far.near.attained t (omega (arith, limits.few_transitions)) l in
+      record { way = w.walk; leads = walk_offsets source target [] offset m t v w.walk w.walks }
 
   -- a path to v has fewer than n rules, and the distance would be no more
-  reaches-not : (t : ℕ) → t < n → t ≢ v → 512 ≤ get_or dist t 0 → ¬ (Reaches (shape source target offset m) t v)
-  reaches-not t b d l x =
+  reaches_not : (t : ℕ) → t < n → t ≢ v → 512 ≤ get_or dist t 0 → ¬ (Reaches (shape source target offset m) t v)
+  reaches_not t b d l x =
       let S = shape source target offset m in
       let s : Shortened S (λ r. 0) 0 0 t v x.way = ⊎_elim (λ (a : LoopAbove S (λ r. 0) 0 0). absurd (omega (arith, a.above))) (λ p. p) (shorten S (λ r. 0) 0 0 (suc (length x.way)) t v x.way (omega arith) x.leads) in
-      none s.path s.walks (path-short S n limits.fits t v s.path b s.walks s.distinct)
+      none s.path s.walks (path_short S n limits.fits t v s.path b s.walks s.distinct)
     where
       none : (rs : List ℕ) → Walk (shape source target offset m) t v rs → length rs < n → ⊥
       none [] e c = d e
-      none (r ∷ rs) w c = omega (arith, near-least (shape source target offset m) v dist far.settled t (r ∷ rs) (omega arith) w, limits.few-transitions)
+      none (r ∷ rs) w c = omega (arith, near_least (shape source target offset m) v dist far.settled t (r ∷ rs) (omega arith) w, limits.few_transitions)
 
-  near-reaches : (r : ℕ) → r < m → Near target v dist r → Reaching (shape source target offset m) v r
-  near-reaches r b =
+  near_reaches : (r : ℕ) → r < m → Near target v dist r → Reaching (shape source target offset m) v r
+  near_reaches r b =
       ⊎_elim
       (λ e. subst (λ t. Reaches (shape source target offset m) t v) (sym e) (reach_here (shape source target offset m) v))
       (reaches (get_or target r 0) (limits.fits r b).1)
 
-  reaches-near : (r : ℕ) → r < m → Reaching (shape source target offset m) v r → Near target v dist r
-  reaches-near r b x =
+  reaches_near : (r : ℕ) → r < m → Reaching (shape source target offset m) v r → Near target v dist r
+  reaches_near r b x =
       by_cases (ℕ_discrete (get_or target r 0) v) inl
-      (λ d. by_cases (dec_lt (get_or dist (get_or target r 0) 0) 512) inr (λ h. absurd (reaches-not (get_or target r 0) (limits.fits r b).1 d (omega arith) x)))
+      (λ d. by_cases (dec_lt (get_or dist (get_or target r 0) 0) 512) inr (λ h. absurd (reaches_not (get_or target r 0) (limits.fits r b).1 d (omega arith) x)))
 
   -- THE GATHERED RULES ARE THOSE WHOSE TARGETS REACH v
   module _ (least greatest from to off low high : List ℕ) (len : ℕ) (h : Taken source target offset least greatest v dist m from to off low high len) where
@@ -163,36 +163,36 @@ module _ (source target : List ℕ) (m n v : ℕ) (limits : Limits source target
     gathers =
         record {
           picks = record {
-            is-rule = h.listed.below;
-            kind = λ j b. near-reaches (get_or h.list j 0) (h.listed.below j b) (h.listed.kind j b);
+            is_rule = h.listed.below;
+            kind = λ j b. near_reaches (get_or h.list j 0) (h.listed.below j b) (h.listed.kind j b);
             source_is = h.sources.1;
             target_is = h.targets.1;
             ascending = h.listed.ascending;
-            all = λ r b x. h.listed.all r b (reaches-near r b x);
+            all = λ r b x. h.listed.all r b (reaches_near r b x);
           };
-          offset-is = h.offsets.1;
+          offset_is = h.offsets.1;
         }
 
   -- all are where every transition reaches v
-  pub gathers-as-they-are : n ≤ k → Gathers (shape source target offset m) (shape source target offset m) v (λ r. r)
-  gathers-as-they-are all = gathers-all (shape source target offset m) v (λ r b. let l = (limits.fits r b).1 in reaches (get_or target r 0) l (far.all all (get_or target r 0) l))
+  pub gathers_as_they_are : n ≤ k → Gathers (shape source target offset m) (shape source target offset m) v (λ r. r)
+  gathers_as_they_are all = gathers_all (shape source target offset m) v (λ r b. let l = (limits.fits r b).1 in reaches (get_or target r 0) l (far.all all (get_or target r 0) l))
 
 module _ (source target offset least greatest : List ℕ) (v : ℕ) (dist : List ℕ) (m : ℕ) (from to off low high : List ℕ) (len : ℕ) (h : Taken source target offset least greatest v dist m from to off low high len) where
-  pub limits-gathered : (n : ℕ) → Limits source target offset m n → Limits from to off len n
-  limits-gathered n l =
+  pub limits_gathered : (n : ℕ) → Limits source target offset m n → Limits from to off len n
+  limits_gathered n l =
       record {
-        few-rules = omega (arith, h.listed.few, l.few-rules);
-        some-transition = l.some-transition;
-        few-transitions = l.few-transitions;
+        few_rules = omega (arith, h.listed.few, l.few_rules);
+        some_transition = l.some_transition;
+        few_transitions = l.few_transitions;
         fits = λ j b. let f = l.fits (get_or h.list j 0) (h.listed.below j b) in (omega (arith, h.sources.1 j b, f), omega (arith, h.targets.1 j b, f));
-        small-offsets = λ j b. omega (arith, h.offsets.1 j b, l.small-offsets (get_or h.list j 0) (h.listed.below j b));
+        small_offsets = λ j b. omega (arith, h.offsets.1 j b, l.small_offsets (get_or h.list j 0) (h.listed.below j b));
       }
 
-  pub ordered-gathered : (blank : Bool) → Ordered least greatest m blank → Ordered low high len blank
-  ordered-gathered blank o =
+  pub ordered_gathered : (blank : Bool) → Ordered least greatest m blank → Ordered low high len blank
+  ordered_gathered blank o =
       record {
-        short-least = λ j b. omega (arith, h.leasts.1 j b, o.short-least (get_or h.list j 0) (h.listed.below j b));
-        short-greatest = λ j b. omega (arith, h.greatests.1 j b, o.short-greatest (get_or h.list j 0) (h.listed.below j b));
+        short_least = λ j b. omega (arith, h.leasts.1 j b, o.short_least (get_or h.list j 0) (h.listed.below j b));
+        short_greatest = λ j b. omega (arith, h.greatests.1 j b, o.short_greatest (get_or h.list j 0) (h.listed.below j b));
         in_order = λ j b. omega (arith, h.leasts.1 j b, h.greatests.1 j b, o.in_order (get_or h.list j 0) (h.listed.below j b));
-        no-blank = λ e j b. h.leasts.1 j b ∙ o.no-blank e (get_or h.list j 0) (h.listed.below j b) ∙ sym (h.greatests.1 j b);
+        no_blank = λ e j b. h.leasts.1 j b ∙ o.no_blank e (get_or h.list j 0) (h.listed.below j b) ∙ sym (h.greatests.1 j b);
       }

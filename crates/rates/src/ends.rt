@@ -1,14 +1,14 @@
 // The two ends alone, of all rules or of those gathered: neither loops nor a schedule are wanted.
 ghost use Rattle.std.specs.Prelude.{◌≡◌};
 ghost use Rattle.model.specs.Loop.{Live};
-ghost use Rattle.columns.specs.Columns.{shape, delayAt, Limits, Short, Ordered};
-ghost use Rattle.engine.specs.Lap.{rangesIn};
-ghost use Rattle.rates.specs.Rate.{refusedRate, Paced, MetRate, RatedIn};
+ghost use Rattle.columns.specs.Columns.{shape, delay_at, Limits, Short, Ordered};
+ghost use Rattle.engine.specs.Lap.{ranges_in};
+ghost use Rattle.rates.specs.Rate.{refused_rate, Paced, MetRate, RatedIn};
 
 use crate::{Rated, Ratio};
 
 pub fn unrated(refusal: u32, place: usize) -> Rated
-    ensures { result ≡ refusedRate refusal place }
+    ensures { result ≡ refused_rate refusal place }
 {
     let none = Ratio { p: 0, q: 0 };
     Rated {
@@ -38,7 +38,7 @@ fn one_end(
     n: usize,
 ) -> Pace
     requires { (Limits source.now target.now offset.now m n) × (Short delay.now m) × (Live (shape source.now target.now offset.now m)) }
-    ensures { Paced (shape source.now target.now offset.now m) (delayAt delay.now) result.found result.p result.q }
+    ensures { Paced (shape source.now target.now offset.now m) (delay_at delay.now) result.found result.p result.q }
 {
     let top = search::climb(source, target, offset, delay, m, n);
     let p = top.p;
@@ -96,7 +96,7 @@ pub fn ends<'a>(
     n: usize,
 ) -> Rated
     requires { (Limits source.now target.now offset.now m n) × (Ordered least.now greatest.now m blank) × (Live (shape source.now target.now offset.now m)) }
-    ensures { RatedIn (shape source.now target.now offset.now m) (rangesIn least.now greatest.now) result }
+    ensures { RatedIn (shape source.now target.now offset.now m) (ranges_in least.now greatest.now) result }
 {
     let low = one_end(source, target, offset, least, m, n);
     if low.found {

@@ -2,7 +2,7 @@
 ghost use Rattle.std.specs.Prelude.{◌≡◌, ◌<◌};
 ghost use Rattle.model.specs.Loop.{Live};
 ghost use Rattle.columns.specs.Columns.{shape, Limits, Ordered};
-ghost use Rattle.engine.specs.Lap.{rangesIn};
+ghost use Rattle.engine.specs.Lap.{ranges_in};
 ghost use Rattle.rates.specs.Rate.{RatedTo};
 ghost use Rattle.rates.specs.Reach.{Counts, Taken};
 
@@ -86,7 +86,7 @@ pub fn ends_to<'a>(
     v: usize,
 ) -> Rated
     requires { (Limits source.now target.now offset.now m n) × (Ordered least.now greatest.now m blank) × (Live (shape source.now target.now offset.now m)) × (v < n) }
-    ensures { RatedTo (shape source.now target.now offset.now m) (rangesIn least.now greatest.now) v result }
+    ensures { RatedTo (shape source.now target.now offset.now m) (ranges_in least.now greatest.now) v result }
 {
     let far = distances::distances_to(source, target, m, n, v);
     if n <= far.count {

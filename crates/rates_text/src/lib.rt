@@ -2,16 +2,16 @@
 mod line;
 
 ghost use Rattle.std.specs.Prelude.{◌≡◌, [], ℕ, ◌<◌, length, get_or};
-ghost use Rattle.rates.specs.Rate.{refusedRate, RateOf};
+ghost use Rattle.rates.specs.Rate.{refused_rate, RateOf};
 ghost use Rattle.words.specs.Held.{Holds};
-ghost use Rattle.rates_text.specs.Rates.{groupLine, FileRate, RateReport, noRate, ListingOf, GroupOf, moreTold, told};
+ghost use Rattle.rates_text.specs.Rates.{group_line_of, FileRate, RateReport, no_rate, ListingOf, GroupOf, more_told, told};
 
 use rates::{Rated, Ratio};
 use table::Table;
 use words::Text;
 
 fn unrated(refusal: u32, place: usize) -> Rated
-    ensures { result ≡ refusedRate refusal place }
+    ensures { result ≡ refused_rate refusal place }
 {
     let none = Ratio { p: 0, q: 0 };
     Rated {
@@ -57,7 +57,7 @@ pub struct Listing {
 }
 
 fn all_rates(t: Table) -> [Rated; 256]
-    ensures { (length result ≡ 256) × ((v : ℕ) → v < 256 → RateOf t v (get_or result v noRate)) }
+    ensures { (length result ≡ 256) × ((v : ℕ) → v < 256 → RateOf t v (get_or result v no_rate)) }
 {
     let none = unrated(0, 0);
     let mut all = [none; 256];
@@ -95,7 +95,7 @@ fn nothing() -> Text
 
 fn group_line(all: Listing, v: usize) -> Text
     requires { v < 256 }
-    ensures { Holds result (groupLine all v) }
+    ensures { Holds result (group_line_of all v) }
 {
     let rates = all.rates;
     let mine = rates[v];
@@ -135,7 +135,7 @@ fn digit_value(x: u8) -> usize
 
 // One digit more. From 1,000 on the number is that of no transition, and stays.
 fn shifted(v: usize, digit: u8) -> usize
-    ensures { result ≡ moreTold v digit }
+    ensures { result ≡ more_told v digit }
 {
     let d = digit_value(digit);
     if 1000 <= v {

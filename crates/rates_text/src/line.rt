@@ -2,12 +2,12 @@
 ghost use Rattle.std.specs.Prelude.{◌≡◌, ◌+◌, ◌*◌, ◌≤◌, ◌<◌, true};
 ghost use Rattle.words.specs.Decimal.{pick, numbers};
 ghost use Rattle.words.specs.Puts.{Puts};
-ghost use Rattle.rates_text.specs.Rates.{exactWords, rangeWords, rateWords, alikeRates, earlierThan, memberIf, membersTo};
+ghost use Rattle.rates_text.specs.Rates.{exact_words_of, range_words_of, rate_words_of, alike_rates, earlier_than, member_if, members_to};
 
 use rates::{Rated, Ratio};
 
 fn exact_words(x: Ratio, out: &mut [u8], at: usize) -> usize
-    ensures { Puts (exactWords x.p x.q) out.old at out.new result × (result ≤ at + 96) }
+    ensures { Puts (exact_words_of x.p x.q) out.old at out.new result × (result ≤ at + 96) }
 {
     let a = words::word(b"rate ", out, at);
     let b = words::ratio(x.p, x.q, out, a);
@@ -15,7 +15,7 @@ fn exact_words(x: Ratio, out: &mut [u8], at: usize) -> usize
 }
 
 fn range_words(low: Ratio, high: Ratio, out: &mut [u8], at: usize) -> usize
-    ensures { Puts (rangeWords low.p low.q high.p high.q) out.old at out.new result × (result ≤ at + 96) }
+    ensures { Puts (range_words_of low.p low.q high.p high.q) out.old at out.new result × (result ≤ at + 96) }
 {
     let a = words::word(b"rate from ", out, at);
     let b = words::ratio(low.p, low.q, out, a);
@@ -24,7 +24,7 @@ fn range_words(low: Ratio, high: Ratio, out: &mut [u8], at: usize) -> usize
 }
 
 pub fn rate_words(x: Rated, out: &mut [u8], at: usize) -> usize
-    ensures { Puts (rateWords x) out.old at out.new result × (result ≤ at + 96) }
+    ensures { Puts (rate_words_of x) out.old at out.new result × (result ≤ at + 96) }
 {
     let low = x.low;
     let high = x.high;
@@ -39,7 +39,7 @@ pub fn rate_words(x: Rated, out: &mut [u8], at: usize) -> usize
 
 // Whether two transitions share a rate: the same ends, or the same refusal.
 fn alike(x: Rated, y: Rated) -> bool
-    ensures { result ≡ alikeRates x y }
+    ensures { result ≡ alike_rates x y }
 {
     let a = x.low;
     let b = y.low;
@@ -75,7 +75,7 @@ fn either(before: bool, now: bool) -> bool
 // Whether a lower transition shares the rate of v.
 pub fn earlier(rates: [Rated; 256], v: usize) -> bool
     requires { v < 256 }
-    ensures { result ≡ earlierThan rates v v }
+    ensures { result ≡ earlier_than rates v v }
 {
     let mine = rates[v];
     let mut found = false;
@@ -90,7 +90,7 @@ pub fn earlier(rates: [Rated; 256], v: usize) -> bool
 
 // Transition k by its number, where it is one of n and shares a rate.
 fn member(k: usize, n: usize, other: Rated, mine: Rated, out: &mut [u8], at: usize) -> usize
-    ensures { Puts (numbers (memberIf k n other mine)) out.old at out.new result × (result ≤ at + 21) }
+    ensures { Puts (numbers (member_if k n other mine)) out.old at out.new result × (result ≤ at + 21) }
 {
     if k < n {
         if alike(other, mine) {
@@ -103,7 +103,7 @@ fn member(k: usize, n: usize, other: Rated, mine: Rated, out: &mut [u8], at: usi
 // The transitions that share the rate of v.
 pub fn members(rates: [Rated; 256], n: usize, v: usize, out: &mut [u8], at: usize) -> usize
     requires { v < 256 }
-    ensures { Puts (numbers (membersTo rates n v 256)) out.old at out.new result × (result ≤ at + 21 * 256) }
+    ensures { Puts (numbers (members_to rates n v 256)) out.old at out.new result × (result ≤ at + 21 * 256) }
 {
     let mine = rates[v];
     let mut next = at;

@@ -1,11 +1,11 @@
 // The rule file: reading its bytes into a table, and writing a table's bytes into a lent buffer.
 ghost use Rattle.std.specs.Prelude.{◌≡◌, ◌+◌, ◌≤◌, ◌<◌, length};
 ghost use Rattle.std.proofs.lemmas.List.Edits.{sets};
-ghost use Rattle.sevens.specs.Sevens.{codeLength};
-ghost use Rattle.table.specs.Limits.{minN, maxN, maxM};
+ghost use Rattle.sevens.specs.Sevens.{code_length_of};
+ghost use Rattle.table.specs.Limits.{min_n, max_n, max_m};
 ghost use Rattle.table.specs.Form.{sized};
 ghost use Rattle.table.specs.Fields.{Within};
-ghost use Rattle.rulefile.specs.File.{delayCode, ruleBytes, rulesBytes, fileOf, num_at, delayOf, ruleBad, ruleAt, refusedRead, rulesFrom, read_of, refusedWrite, writtenAs, Writes};
+ghost use Rattle.rulefile.specs.File.{delay_code, rule_bytes, rules_bytes, file_of, num_at, delay_meant, rule_bad_of, rule_at_of, refused_read, rules_from_of, read_of, refused_write, written_as, Writes};
 
 use table::{Delay, Rule, Table};
 
@@ -76,7 +76,7 @@ fn number_at(bytes: &[u8], at: usize, low: u32, high: u32) -> Num
 
 // Code 0 is unknown, code d + 1 is the known delay d.
 fn delay_of(code: u32) -> Delay
-    ensures { result ≡ delayOf code }
+    ensures { result ≡ delay_meant code }
 {
     if code == 0 {
         return Delay::Unknown;
@@ -86,7 +86,7 @@ fn delay_of(code: u32) -> Delay
 
 // A refused rule: its refusal and place, and nothing else.
 fn rule_bad(refusal: u32, place: usize) -> RuleRead
-    ensures { result ≡ ruleBad refusal place }
+    ensures { result ≡ rule_bad_of refusal place }
 {
     let unused = Rule {
         source: 0,
@@ -118,8 +118,8 @@ fn narrow(x: u32) -> u16
 
 // The rule at a place of the file, of a table with n transitions.
 fn rule_at(bytes: &[u8], at: usize, n: u32) -> RuleRead
-    requires { (at ≤ length bytes.now) × (minN ≤ n) × (n ≤ maxN) }
-    ensures { (result ≡ ruleAt bytes.now at n) × (result.next ≤ length bytes.now) }
+    requires { (at ≤ length bytes.now) × (min_n ≤ n) × (n ≤ max_n) }
+    ensures { (result ≡ rule_at_of bytes.now at n) × (result.next ≤ length bytes.now) }
 {
     let source = number_at(bytes, at, 0, n - 1);
     if 0 < source.refusal {
@@ -154,7 +154,7 @@ fn rule_at(bytes: &[u8], at: usize, n: u32) -> RuleRead
 
 // A refused read hands back the empty table.
 fn file_bad(refusal: u32, place: usize) -> FileRead
-    ensures { result ≡ refusedRead refusal place }
+    ensures { result ≡ refused_read refusal place }
 {
     let none = Table::empty();
     FileRead {
@@ -166,8 +166,8 @@ fn file_bad(refusal: u32, place: usize) -> FileRead
 
 // The m rules from a place on, into a table that has its n and m, and equal unused rules in all its places.
 fn rules_from(bytes: &[u8], from: usize, n: u32, m: usize) -> FileRead
-    requires { (from ≤ length bytes.now) × (minN ≤ n) × (n ≤ maxN) × (m ≤ maxM) }
-    ensures { result ≡ rulesFrom bytes.now n (sized n m) from 0 m }
+    requires { (from ≤ length bytes.now) × (min_n ≤ n) × (n ≤ max_n) × (m ≤ max_m) }
+    ensures { result ≡ rules_from_of bytes.now n (sized n m) from 0 m }
 {
     let mut t = Table::empty();
     t.n = wide(n);
@@ -230,7 +230,7 @@ fn wide_usize(x: usize) -> u64
 
 // Unknown is code 0, the known delay d is code d + 1.
 fn code_of(delay: Delay) -> u64
-    ensures { result ≡ delayCode delay }
+    ensures { result ≡ delay_code delay }
 {
     match delay {
         Delay::Unknown => 0,
@@ -240,14 +240,14 @@ fn code_of(delay: Delay) -> u64
 
 // A number's length, with a bound by which sums of a few of them are known not to wrap.
 fn length_of(v: u64) -> usize
-    ensures { (result ≡ codeLength v) × (result ≤ 10) }
+    ensures { (result ≡ code_length_of v) × (result ≤ 10) }
 {
     sevens::code_length(v)
 }
 
 // How many bytes a rule takes.
 fn rule_length(rule: Rule) -> usize
-    ensures { result ≡ length (ruleBytes rule) }
+    ensures { result ≡ length (rule_bytes rule) }
 {
     let delay = rule.delay;
     let source = length_of(wide_u16(rule.source));
@@ -259,7 +259,7 @@ fn rule_length(rule: Rule) -> usize
 // How many bytes the file of a table takes.
 fn file_length(t: Table) -> usize
     requires { Within t }
-    ensures { result ≡ length (fileOf t) }
+    ensures { result ≡ length (file_of t) }
 {
     let m = t.m;
     let mut count = length_of(wide_usize(t.n)) + length_of(wide_usize(m));
@@ -274,8 +274,8 @@ fn file_length(t: Table) -> usize
 
 // Writes a rule from a place on, and hands back the place after it.
 fn put_rule(rule: Rule, out: &mut [u8], at: usize) -> usize
-    requires { at + length (ruleBytes rule) ≤ length out.old }
-    ensures { (out.new ≡ sets out.old at (ruleBytes rule)) × (result ≡ at + length (ruleBytes rule)) }
+    requires { at + length (rule_bytes rule) ≤ length out.old }
+    ensures { (out.new ≡ sets out.old at (rule_bytes rule)) × (result ≡ at + length (rule_bytes rule)) }
 {
     let delay = rule.delay;
     let a = at + sevens::put(wide_u16(rule.source), out, at);
@@ -286,8 +286,8 @@ fn put_rule(rule: Rule, out: &mut [u8], at: usize) -> usize
 
 // Writes the rules of a table from a place on.
 fn put_rules(t: Table, out: &mut [u8], from: usize)
-    requires { (t.m ≤ maxM) × (from + length (rulesBytes t 0 t.m) ≤ length out.old) }
-    ensures { out.new ≡ sets out.old from (rulesBytes t 0 t.m) }
+    requires { (t.m ≤ max_m) × (from + length (rules_bytes t 0 t.m) ≤ length out.old) }
+    ensures { out.new ≡ sets out.old from (rules_bytes t 0 t.m) }
 {
     let m = t.m;
     let mut at = from;
@@ -301,8 +301,8 @@ fn put_rules(t: Table, out: &mut [u8], from: usize)
 
 // Writes the file of a table into the front of a buffer that has room for it.
 fn put_file(t: Table, out: &mut [u8])
-    requires { (t.m ≤ maxM) × (length (fileOf t) ≤ length out.old) }
-    ensures { out.new ≡ sets out.old 0 (fileOf t) }
+    requires { (t.m ≤ max_m) × (length (file_of t) ≤ length out.old) }
+    ensures { out.new ≡ sets out.old 0 (file_of t) }
 {
     let m = t.m;
     let a = sevens::put(wide_usize(t.n), out, 0);
@@ -312,7 +312,7 @@ fn put_file(t: Table, out: &mut [u8])
 
 // What writing hands back: the count of bytes, or refused 8 with the length needed.
 fn answer(count: usize, room: usize) -> Written
-    ensures { (room < count → result ≡ refusedWrite 8 count) × (count ≤ room → result ≡ writtenAs count) }
+    ensures { (room < count → result ≡ refused_write 8 count) × (count ≤ room → result ≡ written_as count) }
 {
     if room < count {
         return Written {

@@ -9,9 +9,9 @@
 --   Walking ..                     == where a walk is: at v, with the sums a and e
 --   Turn ..                        == what one turn of it does; walking_start, turn
 --   Sums S D n par x               == what was met, if anything, is a closed walk of parents
---   Walked ..                      == what a walk leaves: it came round, or all that it passed is grounded; walked_loop, walked-root, walked-met
---   Low a e, Kept x y r            == sums that can be multiplied, and the better of two that were met; kept-left, kept-right
---   Looked ..                      == what the first k walks leave; looked-start, looked-next, looked-on, looked-all
+--   Walked ..                      == what a walk leaves: it came round, or all that it passed is grounded; walked_loop, walked_root, walked_met
+--   Low a e, Kept x y r            == sums that can be multiplied, and the better of two that were met; kept_left, kept_right
+--   Looked ..                      == what the first k walks leave; looked_start, looked_next, looked_on, looked_all
 use Rattle.std.specs.Prelude.{◌≡◌, Bool, true, false, ◌⊎◌, List, [], ◌∷◌, length, get_or, set, replicate}
 use Rattle.std.proofs.Math.Path.{refl, ap}
 use Rattle.std.proofs.Common.{inl, inr, ⊎_elim, arith, length-set, get_or-set_other}
@@ -23,81 +23,81 @@ use Rattle.std.proofs.Math.Seq.{get_or-set_same}
 use Rattle.model.specs.Shape.{Shape, Fits}
 use Rattle.model.specs.Sums.{delays, offsets}
 use Rattle.model.specs.Walk.{Walk}
-use Rattle.theory.specs.Relax.{zeros-at}
-use Rattle.theory.specs.Parents.{Parents, Grounded, grounded-root, grounded-step}
+use Rattle.theory.specs.Relax.{zeros_at}
+use Rattle.theory.specs.Parents.{Parents, Grounded, grounded_root, grounded_step}
 use Rattle.search.specs.declared.scan.Met.{Met}
-use Rattle.columns.specs.Columns.{shape, delayAt, Limits, Short}
+use Rattle.columns.specs.Columns.{shape, delay_at, Limits, Short}
 use Rattle.search.specs.Search.{Valid, ParentLoop, Scanned}
 
 -- how many of the transitions below k have the stamp 0
-oneIfZero : ℕ → ℕ
-oneIfZero zero = 1
-oneIfZero (suc x) = 0
+one_if_zero : ℕ → ℕ
+one_if_zero zero = 1
+one_if_zero (suc x) = 0
 
 pub unstamped : List ℕ → ℕ → ℕ
 unstamped stamp zero = 0
-unstamped stamp (suc k) = unstamped stamp k + oneIfZero (get_or stamp k 0)
+unstamped stamp (suc k) = unstamped stamp k + one_if_zero (get_or stamp k 0)
 
-one-if-zero : (x : ℕ) → x ≡ 0 → oneIfZero x ≡ 1
-unfolding oneIfZero
-one-if-zero x e = rw e
+one_if_zero_lem : (x : ℕ) → x ≡ 0 → one_if_zero x ≡ 1
+unfolding one_if_zero
+one_if_zero_lem x e = rw e
 
-none-if-not : (x : ℕ) → 0 < x → oneIfZero x ≡ 0
-unfolding oneIfZero
-none-if-not zero b = absurd (omega arith)
-none-if-not (suc x) b = refl
+none_if_not : (x : ℕ) → 0 < x → one_if_zero x ≡ 0
+unfolding one_if_zero
+none_if_not zero b = absurd (omega arith)
+none_if_not (suc x) b = refl
 
-one_at_most : (x : ℕ) → oneIfZero x ≤ 1
-unfolding oneIfZero
+one_at_most : (x : ℕ) → one_if_zero x ≤ 1
+unfolding one_if_zero
 one_at_most zero = omega arith
 one_at_most (suc x) = omega arith
 
-unstamped-most : (stamp : List ℕ) (k : ℕ) → unstamped stamp k ≤ k
+unstamped_most : (stamp : List ℕ) (k : ℕ) → unstamped stamp k ≤ k
 unfolding unstamped
-unstamped-most stamp zero = omega arith
-unstamped-most stamp (suc k) = omega (arith, unstamped-most stamp k, one_at_most (get_or stamp k 0))
+unstamped_most stamp zero = omega arith
+unstamped_most stamp (suc k) = omega (arith, unstamped_most stamp k, one_at_most (get_or stamp k 0))
 
 -- a stamp on v leaves the others as they are, and is one more below every k above v
 module _ (stamp : List ℕ) (v number : ℕ) (room : v < length stamp) (fresh : get_or stamp v 0 ≡ 0) (counted : 0 < number) where
-  unstamped-past : (k : ℕ) → k ≤ v → unstamped (set stamp v number) k ≡ unstamped stamp k
+  unstamped_past : (k : ℕ) → k ≤ v → unstamped (set stamp v number) k ≡ unstamped stamp k
   unfolding unstamped
-  unstamped-past zero b = refl
-  unstamped-past (suc k) b = rw (get_or-set_other stamp v k number 0 (λ e. omega arith), unstamped-past k (omega arith)) refl
+  unstamped_past zero b = refl
+  unstamped_past (suc k) b = rw (get_or-set_other stamp v k number 0 (λ e. omega arith), unstamped_past k (omega arith)) refl
 
-  unstamped-set : (k : ℕ) → v < k → unstamped stamp k ≡ unstamped (set stamp v number) k + 1
+  unstamped_set : (k : ℕ) → v < k → unstamped stamp k ≡ unstamped (set stamp v number) k + 1
   unfolding unstamped
-  unstamped-set zero b = absurd (omega arith)
-  unstamped-set (suc k) b =
+  unstamped_set zero b = absurd (omega arith)
+  unstamped_set (suc k) b =
       by_cases (ℕ_discrete k v)
-      (λ e. rw e (omega (arith, unstamped-past v (omega arith), one-if-zero (get_or stamp v 0) fresh, none-if-not (get_or (set stamp v number) v 0) (omega (arith, get_or-set_same stamp v number 0 room)))))
-      (λ d. omega (arith, unstamped-set k (omega arith), ap oneIfZero (get_or-set_other stamp v k number 0 d)))
+      (λ e. rw e (omega (arith, unstamped_past v (omega arith), one_if_zero_lem (get_or stamp v 0) fresh, none_if_not (get_or (set stamp v number) v 0) (omega (arith, get_or-set_same stamp v number 0 room)))))
+      (λ d. omega (arith, unstamped_set k (omega arith), ap one_if_zero (get_or-set_other stamp v k number 0 d)))
 
 -- the rules are within the limits, and parents are rules into their transitions
 pub record Ready (S : Shape) (D : ℕ → ℕ) (n : ℕ) (par : List ℕ) : Type 0 where
   pub fits : Fits S n
-  pub offset-low : (r : ℕ) → r < S.rules → S.offset r ≤ 15
-  pub delay-low : (r : ℕ) → r < S.rules → D r ≤ 1000000
+  pub offset_low : (r : ℕ) → r < S.rules → S.offset r ≤ 15
+  pub delay_low : (r : ℕ) → r < S.rules → D r ≤ 1000000
   pub valid : Valid S par
 
 -- a walk of parents from v to w that makes up the sums from a₀, e₀ to a, e
 pub record Back (S : Shape) (D : ℕ → ℕ) (par : List ℕ) (v w a e a₀ e₀ : ℕ) : Type 0 where
   pub walk : List ℕ
-  pub some-rule : 0 < length walk
+  pub some_rule : 0 < length walk
   pub walks : Walk S v w walk
   pub parents : Parents S par walk
-  pub delays-are : delays D walk + a₀ ≡ a
+  pub delays_are : delays D walk + a₀ ≡ a
   pub offsets_are : offsets S walk + e₀ ≡ e
 
 -- room for 256 transitions each
 pub record Room (stamp delays' offsets' : List ℕ) : Type 0 where
   pub stamps : length stamp ≡ 256
-  pub delay-sums : length delays' ≡ 256
-  pub offset-sums : length offsets' ≡ 256
+  pub delay_sums : length delays' ≡ 256
+  pub offset_sums : length offsets' ≡ 256
 
 -- a walk may start: its number is above every stamp
 pub record Fresh (n from number : ℕ) (stamp delays' offsets' : List ℕ) : Type 0 where
   pub few : n ≤ 256
-  pub from-below : from < n
+  pub from_below : from < n
   pub counted : 0 < number
   pub above : (w : ℕ) → get_or stamp w 0 < number
   pub room : Room stamp delays' offsets'
@@ -109,22 +109,22 @@ pub record Walking (S : Shape) (D : ℕ → ℕ) (n : ℕ) (par : List ℕ) (fro
   pub kept : (w : ℕ) → (get_or stamp w 0 ≡ get_or stamp₀ w 0) ⊎ (get_or stamp w 0 ≡ number)
   pub back : (w : ℕ) → get_or stamp w 0 ≡ number → Back S D par v w a e (get_or delays' w 0) (get_or offsets' w 0)
   pub start : (from ≡ v) ⊎ (get_or stamp from 0 ≡ number)
-  pub delay-room : a + unstamped stamp n * 1000000 ≤ n * 1000000
-  pub offset-room : e + unstamped stamp n * 15 ≤ n * 15
+  pub delay_room : a + unstamped stamp n * 1000000 ≤ n * 1000000
+  pub offset_room : e + unstamped stamp n * 15 ≤ n * 15
 
 -- a turn of the walk, by rule r, into v: the sums stay within the limits, one transition less is left, and the walk goes on from r's source
 pub record Turn (S : Shape) (D : ℕ → ℕ) (n : ℕ) (par : List ℕ) (from number : ℕ) (stamp₀ stamp delays' offsets' : List ℕ) (v a e r : ℕ) : Type 0 where
-  pub is-rule : r < S.rules
-  pub delay-fits : a + D r ≤ n * 1000000
-  pub offset-fits : e + S.offset r ≤ n * 15
+  pub is_rule : r < S.rules
+  pub delay_fits : a + D r ≤ n * 1000000
+  pub offset_fits : e + S.offset r ≤ n * 15
   pub less : unstamped (set stamp v number) n < unstamped stamp n
   pub on : (u : ℕ) → u ≡ S.source r → Walking S D n par from number stamp₀ (set stamp v number) (set delays' v a) (set offsets' v e) u (a + D r) (e + S.offset r)
 
 -- what was met, if anything was, is a closed walk of parents; its sums are low in any case
 pub record Sums (S : Shape) (D : ℕ → ℕ) (n : ℕ) (par : List ℕ) (x : Met) : Type 0 where
   pub some : x.found ≡ true → ParentLoop S D par n x.delays x.offsets
-  pub delays-low : x.delays ≤ n * 1000000
-  pub offsets-low : x.offsets ≤ n * 15
+  pub delays_low : x.delays ≤ n * 1000000
+  pub offsets_low : x.offsets ≤ n * 15
 
 -- what a walk from `from` leaves, and what it met
 pub record Walked (S : Shape) (D : ℕ → ℕ) (n : ℕ) (par : List ℕ) (from number : ℕ) (stamp₀ stamp delays' offsets' : List ℕ) (x : Met) : Type 0 where
@@ -139,23 +139,23 @@ clash : (b : Bool) → b ≡ true → b ≡ false → ⊥
 clash b t f = let z : ◌≡◌ {A = ℕ} 0 1 = cc in omega arith
 
 -- nothing was met
-abbrev pub nothingMet : Met
-nothingMet = record { found = false; delays = 0; offsets = 0 }
+abbrev pub nothing_met : Met
+nothing_met = record { found = false; delays = 0; offsets = 0 }
 
-nothing-met : (S : Shape) (D : ℕ → ℕ) (n : ℕ) (par : List ℕ) → Sums S D n par nothingMet
-nothing-met S D n par = record { some = λ t. absurd (clash false t refl); delays-low = omega arith; offsets-low = omega arith }
+nothing_met_lem : (S : Shape) (D : ℕ → ℕ) (n : ℕ) (par : List ℕ) → Sums S D n par nothing_met
+nothing_met_lem S D n par = record { some = λ t. absurd (clash false t refl); delays_low = omega arith; offsets_low = omega arith }
 
 module _ (S : Shape) (D : ℕ → ℕ) (n : ℕ) (par : List ℕ) (from number : ℕ) (stamp₀ : List ℕ) where
   pub walking_start : (delays' offsets' : List ℕ) → Fresh n from number stamp₀ delays' offsets' → Walking S D n par from number stamp₀ stamp₀ delays' offsets' from 0 0
   walking_start delays' offsets' f =
       record {
-        here = f.from-below;
+        here = f.from_below;
         room = f.room;
         kept = λ w. inl refl;
         back = λ w e. absurd (omega (arith, e, f.above w));
         start = inl refl;
-        delay-room = omega (arith, unstamped-most stamp₀ n);
-        offset-room = omega (arith, unstamped-most stamp₀ n);
+        delay_room = omega (arith, unstamped_most stamp₀ n);
+        offset_room = omega (arith, unstamped_most stamp₀ n);
       }
 
   -- where the walk ends: at a stamp of its own the sums are no less than they were
@@ -163,8 +163,8 @@ module _ (S : Shape) (D : ℕ → ℕ) (n : ℕ) (par : List ℕ) (from number :
     low' : ((w : ℕ) → get_or stamp₀ w 0 < number) → (w : ℕ) → get_or stamp w 0 ≤ number
     low' above w = ⊎_elim (λ s. omega (arith, s, above w)) (λ m. omega (arith, m)) (at.kept w)
 
-    pub sums-rise : get_or stamp v 0 ≡ number → (get_or delays' v 0 ≤ a) × (get_or offsets' v 0 ≤ e)
-    sums-rise m = let b = at.back v m in (omega (arith, b.delays-are), omega (arith, b.offsets_are))
+    pub sums_rise : get_or stamp v 0 ≡ number → (get_or delays' v 0 ≤ a) × (get_or offsets' v 0 ≤ e)
+    sums_rise m = let b = at.back v m in (omega (arith, b.delays_are), omega (arith, b.offsets_are))
 
     -- at its own stamp: it came round
     pub walked_loop : ((w : ℕ) → get_or stamp₀ w 0 < number) → get_or stamp v 0 ≡ number → (a' e' : ℕ) → a' ≡ a - get_or delays' v 0 → e' ≡ e - get_or offsets' v 0
@@ -178,69 +178,69 @@ module _ (S : Shape) (D : ℕ → ℕ) (n : ℕ) (par : List ℕ) (from number :
             some = λ _. record {
               at = v;
               walk = b.walk;
-              some-rule = b.some-rule;
+              some_rule = b.some_rule;
               closed = b.walks;
               parents = b.parents;
-              delays-are = omega (arith, b.delays-are, p);
+              delays_are = omega (arith, b.delays_are, p);
               offsets_are = omega (arith, b.offsets_are, q);
-              delays-low = delays-low;
-              offsets-low = offsets-low;
+              delays_low = delays_low;
+              offsets_low = offsets_low;
             };
-            delays-low = delays-low;
-            offsets-low = offsets-low;
+            delays_low = delays_low;
+            offsets_low = offsets_low;
           };
           none = λ f. absurd (clash true refl f);
         }
       where
-        delays-low : a' ≤ n * 1000000
-        delays-low = omega (arith, at.delay-room, p)
+        delays_low : a' ≤ n * 1000000
+        delays_low = omega (arith, at.delay_room, p)
 
-        offsets-low : e' ≤ n * 15
-        offsets-low = omega (arith, at.offset-room, q)
+        offsets_low : e' ≤ n * 15
+        offsets_low = omega (arith, at.offset_room, q)
 
     -- from a grounded transition everything that the walk passed is grounded
-    all-grounded : Grounded S n par v → ((w : ℕ) → 0 < get_or stamp₀ w 0 → Grounded S n par w) → Grounded S n par from × ((w : ℕ) → 0 < get_or stamp w 0 → Grounded S n par w)
-    all-grounded g old = (⊎_elim (λ s. rw s g) (λ m. on from m) at.start, λ w b. ⊎_elim (λ s. old w (rw s at b)) (λ m. on w m) (at.kept w))
+    all_grounded : Grounded S n par v → ((w : ℕ) → 0 < get_or stamp₀ w 0 → Grounded S n par w) → Grounded S n par from × ((w : ℕ) → 0 < get_or stamp w 0 → Grounded S n par w)
+    all_grounded g old = (⊎_elim (λ s. rw s g) (λ m. on from m) at.start, λ w b. ⊎_elim (λ s. old w (rw s at b)) (λ m. on w m) (at.kept w))
       where
         on : (w : ℕ) → get_or stamp w 0 ≡ number → Grounded S n par w
-        on w m = let b = at.back w m in grounded-step S n par v w b.walk g b.walks b.parents
+        on w m = let b = at.back w m in grounded_step S n par v w b.walk g b.walks b.parents
 
     walked_none : ((w : ℕ) → get_or stamp₀ w 0 < number) → (((w : ℕ) → 0 < get_or stamp₀ w 0 → Grounded S n par w) → Grounded S n par v)
-        → Walked S D n par from number stamp₀ stamp delays' offsets' nothingMet
+        → Walked S D n par from number stamp₀ stamp delays' offsets' nothing_met
     walked_none above g =
-        record { room = at.room; low = low' above; sums = nothing-met S D n par; none = λ f old. all-grounded (g old) old }
+        record { room = at.room; low = low' above; sums = nothing_met_lem S D n par; none = λ f old. all_grounded (g old) old }
 
     -- at a transition without a parent, or at the stamp of an earlier walk
-    pub walked-root : ((w : ℕ) → get_or stamp₀ w 0 < number) → get_or par v 0 ≡ 0 → Walked S D n par from number stamp₀ stamp delays' offsets' nothingMet
-    walked-root above e = walked_none above (λ old. grounded-root S n par v at.here e)
+    pub walked_root : ((w : ℕ) → get_or stamp₀ w 0 < number) → get_or par v 0 ≡ 0 → Walked S D n par from number stamp₀ stamp delays' offsets' nothing_met
+    walked_root above e = walked_none above (λ old. grounded_root S n par v at.here e)
 
-    pub walked-met : ((w : ℕ) → get_or stamp₀ w 0 < number) → 0 < get_or stamp v 0 → ¬ (get_or stamp v 0 ≡ number) → Walked S D n par from number stamp₀ stamp delays' offsets' nothingMet
-    walked-met above b d = walked_none above (λ old. ⊎_elim (λ s. old v (rw s at b)) (λ m. absurd (d m)) (at.kept v))
+    pub walked_met : ((w : ℕ) → get_or stamp₀ w 0 < number) → 0 < get_or stamp v 0 → ¬ (get_or stamp v 0 ≡ number) → Walked S D n par from number stamp₀ stamp delays' offsets' nothing_met
+    walked_met above b d = walked_none above (λ old. ⊎_elim (λ s. old v (rw s at b)) (λ m. absurd (d m)) (at.kept v))
 
 module _ (S : Shape) (D : ℕ → ℕ) (n : ℕ) (par : List ℕ) (ready : Ready S D n par) (from number : ℕ) (stamp₀ : List ℕ) where
   -- at v, which is not stamped: its parent is rule r
   module _ (counted : 0 < number) (few : n ≤ 256) (stamp delays' offsets' : List ℕ) (v a e r : ℕ)
       (at : Walking S D n par from number stamp₀ stamp delays' offsets' v a e) (fresh : get_or stamp v 0 ≡ 0) (parent : get_or par v 0 ≡ suc r) where
-    is-rule : r < S.rules
-    is-rule = (ready.valid v r parent).0
+    is_rule : r < S.rules
+    is_rule = (ready.valid v r parent).0
 
-    in-stamp : v < length stamp
-    in-stamp = omega (arith, at.here, at.room.stamps)
+    in_stamp : v < length stamp
+    in_stamp = omega (arith, at.here, at.room.stamps)
 
     -- one transition less is left
     stamped : unstamped stamp n ≡ unstamped (set stamp v number) n + 1
-    stamped = unstamped-set stamp v number in-stamp fresh counted n at.here
+    stamped = unstamped_set stamp v number in_stamp fresh counted n at.here
 
-    from-source : (w : ℕ) → get_or (set stamp v number) w 0 ≡ number → Back S D par (S.source r) w (a + D r) (e + S.offset r) (get_or (set delays' v a) w 0) (get_or (set offsets' v e) w 0)
-    from-source w m =
+    from_source : (w : ℕ) → get_or (set stamp v number) w 0 ≡ number → Back S D par (S.source r) w (a + D r) (e + S.offset r) (get_or (set delays' v a) w 0) (get_or (set offsets' v e) w 0)
+    from_source w m =
         by_cases (ℕ_discrete w v)
         (λ s. record {
           walk = r ∷ [];
-          some-rule = omega arith;
-          walks = (is-rule, refl, cc (s, (ready.valid v r parent).1));
+          some_rule = omega arith;
+          walks = (is_rule, refl, cc (s, (ready.valid v r parent).1));
           parents = (rw (ready.valid v r parent).1 parent, tt);
-          delays-are = rw s (omega (arith, get_or-set_same delays' v a 0 (omega (arith, at.here, at.room.delay-sums))));
-          offsets_are = rw s (omega (arith, get_or-set_same offsets' v e 0 (omega (arith, at.here, at.room.offset-sums))));
+          delays_are = rw s (omega (arith, get_or-set_same delays' v a 0 (omega (arith, at.here, at.room.delay_sums))));
+          offsets_are = rw s (omega (arith, get_or-set_same offsets' v e 0 (omega (arith, at.here, at.room.offset_sums))));
         })
         (λ d. longer w d (at.back w (rw (get_or-set_other stamp v w number 0 d) at m)))
       where
@@ -249,43 +249,43 @@ module _ (S : Shape) (D : ℕ → ℕ) (n : ℕ) (par : List ℕ) (ready : Ready
         longer w d b =
             record {
               walk = r ∷ b.walk;
-              some-rule = omega arith;
-              walks = (is-rule, refl, rw (ready.valid v r parent).1 b.walks);
+              some_rule = omega arith;
+              walks = (is_rule, refl, rw (ready.valid v r parent).1 b.walks);
               parents = (rw (ready.valid v r parent).1 parent, b.parents);
-              delays-are = omega (arith, b.delays-are, get_or-set_other delays' v w a 0 d);
+              delays_are = omega (arith, b.delays_are, get_or-set_other delays' v w a 0 d);
               offsets_are = omega (arith, b.offsets_are, get_or-set_other offsets' v w e 0 d);
             }
 
     walking_on : Walking S D n par from number stamp₀ (set stamp v number) (set delays' v a) (set offsets' v e) (S.source r) (a + D r) (e + S.offset r)
     walking_on =
         record {
-          here = (ready.fits r is-rule).0;
-          room = record { stamps = simp length-set at.room.stamps; delay-sums = simp length-set at.room.delay-sums; offset-sums = simp length-set at.room.offset-sums };
+          here = (ready.fits r is_rule).0;
+          room = record { stamps = simp length-set at.room.stamps; delay_sums = simp length-set at.room.delay_sums; offset_sums = simp length-set at.room.offset_sums };
           kept = kept';
-          back = from-source;
+          back = from_source;
           start = inr (start' at.start);
-          delay-room = omega (arith, at.delay-room, ready.delay-low r is-rule, stamped);
-          offset-room = omega (arith, at.offset-room, ready.offset-low r is-rule, stamped);
+          delay_room = omega (arith, at.delay_room, ready.delay_low r is_rule, stamped);
+          offset_room = omega (arith, at.offset_room, ready.offset_low r is_rule, stamped);
         }
       where
         kept' : (w : ℕ) → (get_or (set stamp v number) w 0 ≡ get_or stamp₀ w 0) ⊎ (get_or (set stamp v number) w 0 ≡ number)
         kept' w =
             by_cases (ℕ_discrete w v)
-            (λ s. inr (rw s (get_or-set_same stamp v number 0 in-stamp)))
+            (λ s. inr (rw s (get_or-set_same stamp v number 0 in_stamp)))
             (λ d. rw (get_or-set_other stamp v w number 0 d) (at.kept w))
 
         start' : (from ≡ v) ⊎ (get_or stamp from 0 ≡ number) → get_or (set stamp v number) from 0 ≡ number
         start' x =
             by_cases (ℕ_discrete from v)
-            (λ s. rw s (get_or-set_same stamp v number 0 in-stamp))
+            (λ s. rw s (get_or-set_same stamp v number 0 in_stamp))
             (λ d. ⊎_elim (λ s. absurd (d s)) (λ m. rw (get_or-set_other stamp v from number 0 d) m) x)
 
     turned : Turn S D n par from number stamp₀ stamp delays' offsets' v a e r
     turned =
         record {
-          is-rule = is-rule;
-          delay-fits = omega (arith, at.delay-room, ready.delay-low r is-rule, stamped);
-          offset-fits = omega (arith, at.offset-room, ready.offset-low r is-rule, stamped);
+          is_rule = is_rule;
+          delay_fits = omega (arith, at.delay_room, ready.delay_low r is_rule, stamped);
+          offset_fits = omega (arith, at.offset_room, ready.offset_low r is_rule, stamped);
           less = omega (arith, stamped);
           on = λ u s. rw s walking_on;
         }
@@ -299,8 +299,8 @@ module _ (S : Shape) (D : ℕ → ℕ) (n : ℕ) (par : List ℕ) (ready : Ready
 
 -- sums whose products are far below 2 ^ 64
 pub record Low (a e : ℕ) : Type 0 where
-  pub delays-low : a ≤ 256000000
-  pub offsets-low : e ≤ 3840
+  pub delays_low : a ≤ 256000000
+  pub offsets_low : e ≤ 3840
 
 -- one of the two is kept, and one that was found if there is one
 pub record Kept (x y r : Met) : Type 0 where
@@ -308,11 +308,11 @@ pub record Kept (x y r : Met) : Type 0 where
   pub left : r.found ≡ false → x.found ≡ false
   pub right : r.found ≡ false → y.found ≡ false
 
-pub kept-left : (x y : Met) → (y.found ≡ false) ⊎ (x.found ≡ true) → Kept x y x
-kept-left x y w = record { either = inl refl; left = λ f. f; right = λ f. ⊎_elim (λ g. g) (λ t. absurd (clash x.found t f)) w }
+pub kept_left : (x y : Met) → (y.found ≡ false) ⊎ (x.found ≡ true) → Kept x y x
+kept_left x y w = record { either = inl refl; left = λ f. f; right = λ f. ⊎_elim (λ g. g) (λ t. absurd (clash x.found t f)) w }
 
-pub kept-right : (x y : Met) → y.found ≡ true → Kept x y y
-kept-right x y t = record { either = inr refl; left = λ f. absurd (clash y.found t f); right = λ f. f }
+pub kept_right : (x y : Met) → y.found ≡ true → Kept x y y
+kept_right x y t = record { either = inr refl; left = λ f. absurd (clash y.found t f); right = λ f. f }
 
 -- what the walks from the first k transitions leave, and the closed walk that is kept
 pub record Looked (S : Shape) (D : ℕ → ℕ) (n : ℕ) (par : List ℕ) (k : ℕ) (stamp delays' offsets' : List ℕ) (x : Met) : Type 0 where
@@ -323,25 +323,25 @@ pub record Looked (S : Shape) (D : ℕ → ℕ) (n : ℕ) (par : List ℕ) (k : 
   pub none : x.found ≡ false → ((w : ℕ) → w < k → Grounded S n par w) × ((w : ℕ) → 0 < get_or stamp w 0 → Grounded S n par w)
 
 module _ (S : Shape) (D : ℕ → ℕ) (n : ℕ) (par : List ℕ) where
-  pub looked-start : Looked S D n par 0 (replicate 256 0) (replicate 256 0) (replicate 256 0) nothingMet
-  looked-start =
+  pub looked_start : Looked S D n par 0 (replicate 256 0) (replicate 256 0) (replicate 256 0) nothing_met
+  looked_start =
       record {
         inside = omega arith;
-        room = record { stamps = length-replicate {A = ℕ} 256 0; delay-sums = length-replicate {A = ℕ} 256 0; offset-sums = length-replicate {A = ℕ} 256 0 };
-        low = λ w. omega (arith, zeros-at 256 w);
-        sums = nothing-met S D n par;
-        none = λ f. (λ w b. absurd (omega (arith, b)), λ w b. absurd (omega (arith, b, zeros-at 256 w)));
+        room = record { stamps = length-replicate {A = ℕ} 256 0; delay_sums = length-replicate {A = ℕ} 256 0; offset_sums = length-replicate {A = ℕ} 256 0 };
+        low = λ w. omega (arith, zeros_at 256 w);
+        sums = nothing_met_lem S D n par;
+        none = λ f. (λ w b. absurd (omega (arith, b)), λ w b. absurd (omega (arith, b, zeros_at 256 w)));
       }
 
   module _ (k number : ℕ) (stamp delays' offsets' : List ℕ) (x : Met) (l : Looked S D n par k stamp delays' offsets' x) (left : k < n) (next : number ≡ k + 1) where
     -- the next walk may start
-    pub looked-next : n ≤ 256 → Fresh n k number stamp delays' offsets'
-    looked-next few = record { few = few; from-below = left; counted = omega arith; above = λ w. omega (arith, l.low w); room = l.room }
+    pub looked_next : n ≤ 256 → Fresh n k number stamp delays' offsets'
+    looked_next few = record { few = few; from_below = left; counted = omega arith; above = λ w. omega (arith, l.low w); room = l.room }
 
     -- ONE WALK MORE
-    pub looked-on : (stamp' delays'' offsets'' : List ℕ) (y r : Met) → Walked S D n par k number stamp stamp' delays'' offsets'' y → Kept x y r
+    pub looked_on : (stamp' delays'' offsets'' : List ℕ) (y r : Met) → Walked S D n par k number stamp stamp' delays'' offsets'' y → Kept x y r
         → Looked S D n par (k + 1) stamp' delays'' offsets'' r
-    looked-on stamp' delays'' offsets'' y r w kept =
+    looked_on stamp' delays'' offsets'' y r w kept =
         record {
           inside = omega arith;
           room = w.room;
@@ -350,14 +350,14 @@ module _ (S : Shape) (D : ℕ → ℕ) (n : ℕ) (par : List ℕ) where
           none = λ f. let old = l.none (kept.left f) in let new = w.none (kept.right f) old.1 in (λ v b. by_cases (ℕ_discrete v k) (λ s. rw s new.0) (λ d. old.0 v (omega arith)), new.1);
         }
 
-  pub looked-all : (k : ℕ) (stamp delays' offsets' : List ℕ) (x : Met) → Looked S D n par k stamp delays' offsets' x → n ≤ k → Scanned S D n par x.found x.delays x.offsets
-  looked-all k stamp delays' offsets' x l all = record { some = l.sums.some; none = λ f v b. (l.none f).0 v (omega arith) }
+  pub looked_all : (k : ℕ) (stamp delays' offsets' : List ℕ) (x : Met) → Looked S D n par k stamp delays' offsets' x → n ≤ k → Scanned S D n par x.found x.delays x.offsets
+  looked_all k stamp delays' offsets' x l all = record { some = l.sums.some; none = λ f v b. (l.none f).0 v (omega arith) }
 
 -- sums over at most 256 rules are low
-pub sums-low : (S : Shape) (D : ℕ → ℕ) (n : ℕ) (par : List ℕ) (x : Met) → Sums S D n par x → n ≤ 256 → Low x.delays x.offsets
-sums-low S D n par x s few = record { delays-low = omega (arith, s.delays-low); offsets-low = omega (arith, s.offsets-low) }
+pub sums_low : (S : Shape) (D : ℕ → ℕ) (n : ℕ) (par : List ℕ) (x : Met) → Sums S D n par x → n ≤ 256 → Low x.delays x.offsets
+sums_low S D n par x s few = record { delays_low = omega (arith, s.delays_low); offsets_low = omega (arith, s.offsets_low) }
 
 -- the columns of a checked table are ready
 pub ready : (source target offset delay par : List ℕ) (m n : ℕ) → (Limits source target offset m n) × (Short delay m) × (Valid (shape source target offset m) par)
-    → Ready (shape source target offset m) (delayAt delay) n par
-ready source target offset delay par m n g = record { fits = g.0.fits; offset-low = g.0.small-offsets; delay-low = g.1; valid = g.2 }
+    → Ready (shape source target offset m) (delay_at delay) n par
+ready source target offset delay par m n g = record { fits = g.0.fits; offset_low = g.0.small_offsets; delay_low = g.1; valid = g.2 }

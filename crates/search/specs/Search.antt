@@ -24,13 +24,13 @@ Valid S par = (v r : ℕ) → get_or par v 0 ≡ suc r → (r < S.rules) × (S.t
 pub record ParentLoop (S : Shape) (D : ℕ → ℕ) (par : List ℕ) (n a e : ℕ) : Type 0 where
   pub at : ℕ
   pub walk : List ℕ
-  pub some-rule : 0 < length walk
+  pub some_rule : 0 < length walk
   pub closed : Walk S at at walk
   pub parents : Parents S par walk
-  pub delays-are : delays D walk ≡ a
+  pub delays_are : delays D walk ≡ a
   pub offsets_are : offsets S walk ≡ e
-  pub delays-low : a ≤ n * 1000000
-  pub offsets-low : e ≤ n * 15
+  pub delays_low : a ≤ n * 1000000
+  pub offsets_low : e ≤ n * 15
 
 pub record Scanned (S : Shape) (D : ℕ → ℕ) (n : ℕ) (par : List ℕ) (f : Bool) (a e : ℕ) : Type 0 where
   pub some : f ≡ true → ParentLoop S D par n a e
@@ -43,9 +43,9 @@ pub record Passed (S : Shape) (D : ℕ → ℕ) (P Q c k : ℕ) (x₀ x par : Li
   pub busy : f ≡ true → (r : ℕ) × (r < S.rules) × (get_or x₀ (S.target r) 0 < get_or x (S.target r) 0)
 
 pub record LowWalk (S : Shape) (D : ℕ → ℕ) (n a e : ℕ) : Type 0 where
-  pub is-walk : ClosedWalk S D a e
-  pub delays-low : a ≤ n * 1000000
-  pub offsets-low : e ≤ n * 15
+  pub is_walk : ClosedWalk S D a e
+  pub delays_low : a ≤ n * 1000000
+  pub offsets_low : e ≤ n * 15
 
 pub record Started (S : Shape) (D : ℕ → ℕ) (n : ℕ) (f : Bool) (a e : ℕ) : Type 0 where
   pub walk : f ≡ true → LowWalk S D n a e
@@ -59,7 +59,7 @@ pub record Settled (S : Shape) (D : ℕ → ℕ) (P Q n : ℕ) (x : List ℕ) (f
 -- no value is above the delays of 255 rules, times 3,840
 pub record Reached (S : Shape) (D : ℕ → ℕ) (P Q : ℕ) (x : List ℕ) : Type 0 where
   pub climbed : Climbed S D P Q x
-  pub P-low : P ≤ 256000000
-  pub Q-low : Q ≤ 3840
+  pub p_low : P ≤ 256000000
+  pub q_low : Q ≤ 3840
   pub size : length x ≡ 256
   pub low : (v : ℕ) → get_or x v 0 ≤ 979200000000

@@ -1,7 +1,7 @@
 // The ratio to start from. At a ratio that no loop is above, each transition takes the rule that asks most of it; where the parents so chosen come round
 // they have one of the best quotients, and most often the best.
 ghost use Rattle.std.specs.Prelude.{◌≡◌, ◌⊎◌, ℕ, ◌≤◌};
-ghost use Rattle.columns.specs.Columns.{shape, delayAt, Limits, Short};
+ghost use Rattle.columns.specs.Columns.{shape, delay_at, Limits, Short};
 ghost use Rattle.search.specs.Search.{Started};
 ghost use Rattle.search.specs.Above.{lift, Bids, Bid};
 
@@ -69,7 +69,7 @@ pub fn start(
     n: usize,
 ) -> Parents
     requires { (Limits source.now target.now offset.now m n) × (Short delay.now m) }
-    ensures { Started (shape source.now target.now offset.now m) (delayAt delay.now) n result.met.found result.met.delays result.met.offsets }
+    ensures { Started (shape source.now target.now offset.now m) (delay_at delay.now) n result.met.found result.met.delays result.met.offsets }
 {
     let mut most = [0u64; 256];
     let mut par = [0u16; 256];

@@ -7,7 +7,7 @@ mod scan;
 ghost use Rattle.std.specs.Prelude.{◌≡◌, true, ◌*◌, ◌≤◌, ◌<◌, length};
 ghost use Rattle.model.specs.Loop.{SomeLoop, Live};
 ghost use Rattle.theory.specs.Ratio.{IsGcd};
-ghost use Rattle.columns.specs.Columns.{shape, delayAt, Limits, Short};
+ghost use Rattle.columns.specs.Columns.{shape, delay_at, Limits, Short};
 ghost use Rattle.search.specs.Search.{Settled, Reached};
 ghost use Rattle.search.specs.Climbing.{Asks, Risen, Query, Ready, Ended, Carried, Quotient};
 
@@ -53,8 +53,8 @@ fn pass(
     x: &mut [u64; 256],
     par: &mut [u16; 256],
 ) -> bool
-    requires { Ready (shape source.now target.now offset.now m) (delayAt delay.now) p q x.old par.old }
-    ensures { Ended (shape source.now target.now offset.now m) (delayAt delay.now) p q x.old par.old x.new par.new result }
+    requires { Ready (shape source.now target.now offset.now m) (delay_at delay.now) p q x.old par.old }
+    ensures { Ended (shape source.now target.now offset.now m) (delay_at delay.now) p q x.old par.old x.new par.new result }
 {
     let mut changed = false;
     let mut i = 0;
@@ -81,8 +81,8 @@ fn carry(
     x: &mut [u64; 256],
     par: &mut [u16; 256],
 )
-    requires { (len ≤ 2048) × Ready (shape source.now target.now offset.now m) (delayAt delay.now) p q x.old par.old }
-    ensures { Carried (shape source.now target.now offset.now m) (delayAt delay.now) p q x.old par.old x.new par.new }
+    requires { (len ≤ 2048) × Ready (shape source.now target.now offset.now m) (delay_at delay.now) p q x.old par.old }
+    ensures { Carried (shape source.now target.now offset.now m) (delay_at delay.now) p q x.old par.old x.new par.new }
 {
     let mut k = 0;
     while k < len {
@@ -108,8 +108,8 @@ fn follow(
     x: &mut [u64; 256],
     par: &mut [u16; 256],
 )
-    requires { (Limits source.now target.now offset.now m n) × Ready (shape source.now target.now offset.now m) (delayAt delay.now) p q x.old par.old }
-    ensures { Carried (shape source.now target.now offset.now m) (delayAt delay.now) p q x.old par.old x.new par.new }
+    requires { (Limits source.now target.now offset.now m n) × Ready (shape source.now target.now offset.now m) (delay_at delay.now) p q x.old par.old }
+    ensures { Carried (shape source.now target.now offset.now m) (delay_at delay.now) p q x.old par.old x.new par.new }
 {
     let list = order::roots_first(source, target, offset, m, n, parents);
     let rules = list.rules;
@@ -140,8 +140,8 @@ fn settle(
     q: u64,
     parents: &[u16; 256],
 ) -> Search
-    requires { Query (shape source.now target.now offset.now m) (delayAt delay.now) n p q }
-    ensures settled { Settled (shape source.now target.now offset.now m) (delayAt delay.now) p q n result.x result.met.found result.met.delays result.met.offsets }
+    requires { Query (shape source.now target.now offset.now m) (delay_at delay.now) n p q }
+    ensures settled { Settled (shape source.now target.now offset.now m) (delay_at delay.now) p q n result.x result.met.found result.met.delays result.met.offsets }
     ensures x_len { length result.x ≡ 256 }
 {
     let mut x = [0u64; 256];
@@ -231,7 +231,7 @@ pub fn climb(
     n: usize,
 ) -> Top
     requires { (Limits source.now target.now offset.now m n) × (Short delay.now m) × (Live (shape source.now target.now offset.now m)) }
-    ensures reached { Reached (shape source.now target.now offset.now m) (delayAt delay.now) result.p result.q result.x }
+    ensures reached { Reached (shape source.now target.now offset.now m) (delay_at delay.now) result.p result.q result.x }
     ensures some_loop { result.found ≡ true → SomeLoop (shape source.now target.now offset.now m) }
 {
     let order = order::order(source, target, offset, m, n);

@@ -1,5 +1,5 @@
 // Follows parents back from each transition: to one without a parent, to one that was passed before, or round.
-ghost use Rattle.columns.specs.Columns.{shape, delayAt, Limits, Short};
+ghost use Rattle.columns.specs.Columns.{shape, delay_at, Limits, Short};
 ghost use Rattle.search.specs.Search.{Valid, Scanned};
 ghost use Rattle.search.specs.Scan.{Fresh, Walked, Low, Kept};
 
@@ -31,7 +31,7 @@ fn walk_back(
 ) -> Met
     requires limits { (Limits source.now target.now offset.now m n) × (Short delay.now m) × (Valid (shape source.now target.now offset.now m) par.now) }
     requires fresh { Fresh n from number stamp.old delays.old offsets.old }
-    ensures { Walked (shape source.now target.now offset.now m) (delayAt delay.now) n par.now from number stamp.old stamp.new delays.new offsets.new result }
+    ensures { Walked (shape source.now target.now offset.now m) (delay_at delay.now) n par.now from number stamp.old stamp.new delays.new offsets.new result }
 {
     let mut v = from;
     let mut a = 0u32;
@@ -97,7 +97,7 @@ pub fn scan(
     par: &[u16; 256],
 ) -> Met
     requires { (Limits source.now target.now offset.now m n) × (Short delay.now m) × (Valid (shape source.now target.now offset.now m) par.now) }
-    ensures { Scanned (shape source.now target.now offset.now m) (delayAt delay.now) n par.now result.found result.delays result.offsets }
+    ensures { Scanned (shape source.now target.now offset.now m) (delay_at delay.now) n par.now result.found result.delays result.offsets }
 {
     let mut stamp = [0u16; 256];
     let mut delays = [0u32; 256];

@@ -2,14 +2,14 @@
 --
 --   pick t a b              a where the test t holds, b where it does not
 --   followed b x            what a byte b, whose top bit is set, comes to before x
---   rawOf g s               the number at the front of the bytes s, of at most g groups: Cut, Long, or Value with its value and its size in bytes
---   cutPlace, longPlace     where refusals 1 and 2 of such a number are placed; marked k s: how many of the first k bytes have their top bit set, before one has not
+--   raw_of g s               the number at the front of the bytes s, of at most g groups: Cut, Long, or Value with its value and its size in bytes
+--   cut_place_of, long_place_of     where refusals 1 and 2 of such a number are placed; marked k s: how many of the first k bytes have their top bit set, before one has not
 --   Answer                  what reading a number hands back
 --   refused number at       a refusal; accepted value rest: an acceptance
 --   limited g s low high x  the answer, where x is what stands at the front of s
 --   number_of g s low high   the answer about the number at the front of s, which is to be from low to high
 --   Read                    what reading a number promises
---   code_in, code_of v        the bytes of v, with the fewest groups; codeLength v: how many these are
+--   code_in, code_of v        the bytes of v, with the fewest groups; code_length_of v: how many these are
 --   Put, put_of v out at     what writing v into out at the place `at` promises
 --   Bytes s                 every element of s is a byte
 use Rattle.std.specs.Prelude.{ℕ, zero, suc, ◌+◌, ◌-◌, ◌*◌, ◌/◌, ◌%◌, ◌<◌, Bool, true, false, List, [], ◌∷◌, ◌≡◌, length, get_or, drop, ltb, leb}
@@ -32,16 +32,16 @@ followed b (Value zero size) = Long
 followed b (Value (suc v) size) = Value (b - 128 + 128 * suc v) (size + 1)
 
 -- the number at the front of some bytes, where g groups are left: with none left it is too long, with no byte left it is cut
-unfoldable pub rawOf : ℕ → List ℕ → Raw
-rawOf zero s = Long
-rawOf (suc g) [] = Cut
-rawOf (suc g) (b ∷ s) = pick (ltb b 128) (Value b 1) (followed b (rawOf g s))
+unfoldable pub raw_of : ℕ → List ℕ → Raw
+raw_of zero s = Long
+raw_of (suc g) [] = Cut
+raw_of (suc g) (b ∷ s) = pick (ltb b 128) (Value b 1) (followed b (raw_of g s))
 
 -- ---- a number within limits
 
 -- refusal 1 stands after the last byte lent, where the missing one would be
-unfoldable pub cutPlace : ℕ → List ℕ → ℕ
-cutPlace g s = length s
+unfoldable pub cut_place_of : ℕ → List ℕ → ℕ
+cut_place_of g s = length s
 
 -- how many of the first k bytes, from the front on, have their top bit set
 unfoldable pub marked : ℕ → List ℕ → ℕ
@@ -50,9 +50,9 @@ marked (suc k) [] = 0
 marked (suc k) (b ∷ s) = pick (ltb b 128) 0 (suc (marked k s))
 
 -- refusal 2 stands at the byte that breaks the rule: the g-th where its top bit is set (then it is after g - 1 such bytes),
--- otherwise the last group, which is zero (`long-byte` says both)
-unfoldable pub longPlace : ℕ → List ℕ → ℕ
-longPlace g s = marked (g - 1) s
+-- otherwise the last group, which is zero (`long_byte` says both)
+unfoldable pub long_place_of : ℕ → List ℕ → ℕ
+long_place_of g s = marked (g - 1) s
 
 -- the value, the number of the refusal or 0, its place, and the bytes not yet read
 pub record Answer : Type 0 where
@@ -71,8 +71,8 @@ accepted v r = record { value = v; refusal = 0; place = 0; rest = r }
 
 -- a missing byte is 1, a number not written as it should be 2, a value outside its limits 3
 unfoldable pub limited : ℕ → List ℕ → ℕ → ℕ → Raw → Answer
-limited g s low high Cut = refused 1 (cutPlace g s)
-limited g s low high Long = refused 2 (longPlace g s)
+limited g s low high Cut = refused 1 (cut_place_of g s)
+limited g s low high Long = refused 2 (long_place_of g s)
 limited g s low high (Value v size) =
     pick (ltb v low) (refused 3 0)
     (pick (ltb high v) (refused 3 0)
@@ -80,14 +80,14 @@ limited g s low high (Value v size) =
 
 -- the number at the front of s, of at most g groups, which is to be from low to high
 unfoldable pub number_of : ℕ → List ℕ → ℕ → ℕ → Answer
-number_of g s low high = limited g s low high (rawOf g s)
+number_of g s low high = limited g s low high (raw_of g s)
 
 -- what reading promises of the bytes s lent at `from` and the part r handed back at `to`: the answer, and that the part is
 -- the empty one at the start of s where it is refused, and the end of s where it is accepted
 pub record Read (g : ℕ) (s : List ℕ) (low high value refusal place : ℕ) (r : List ℕ) (from to : ℕ × ℕ) : Type 0 where
   pub answer : number_of g s low high ≡ record { value = value; refusal = refusal; place = place; rest = r }
-  pub at-start : 0 < refusal → to ≡ from
-  pub at-end : refusal ≡ 0 → (to.0 ≡ from.0) × (to.1 ≡ from.1 + (length s - length r))
+  pub at_start : 0 < refusal → to ≡ from
+  pub at_end : refusal ≡ 0 → (to.0 ≡ from.0) × (to.1 ≡ from.1 + (length s - length r))
 
 -- ---- writing a number
 
@@ -98,13 +98,13 @@ code_in (suc g) v =
     let higher = code_in g (v / 128) in
     pick (ltb v 128) (v ∷ []) ((v % 128 + 128) ∷ higher)
 
--- the bytes of v with the fewest groups: v itself bounds their number (`code-last` and `code-more` are the plain equations)
+-- the bytes of v with the fewest groups: v itself bounds their number (`code_last` and `code_more` are the plain equations)
 unfoldable pub code_of : ℕ → List ℕ
 code_of v = code_in v v
 
 -- the bytes that v takes
-abbrev pub codeLength : ℕ → ℕ
-codeLength v = length (code_of v)
+abbrev pub code_length_of : ℕ → ℕ
+code_length_of v = length (code_of v)
 
 -- the buffer after writing, and how many bytes were written
 pub record Put : Type 0 where
@@ -114,8 +114,8 @@ pub record Put : Type 0 where
 -- v written into out from the place `at` on; where there is no room for all of it, nothing is
 unfoldable pub put_of : ℕ → List ℕ → ℕ → Put
 put_of v out at =
-    pick (leb (at + codeLength v) (length out))
-    (record { buffer = sets out at (code_of v); count = codeLength v })
+    pick (leb (at + code_length_of v) (length out))
+    (record { buffer = sets out at (code_of v); count = code_length_of v })
     (record { buffer = out; count = 0 })
 
 -- ---- bytes

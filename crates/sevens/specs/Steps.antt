@@ -12,8 +12,8 @@ use Rattle.std.proofs.Math.ListN.{length-drop}
 use Rattle.std.proofs.lemmas.List.Edits.{sets}
 use Rattle.sevens.specs.declared.Raw.{Raw}
 use Rattle.sevens.specs.declared.Raw.TheVariants.{Cut, Long, Value}
-use Rattle.sevens.specs.Sevens.{followed, rawOf, Answer, refused, number_of, Read, code_of, codeLength, put_of}
-use Rattle.sevens.specs.Laws.{raw-last, raw-more, raw-size, Follow, value_same, number-accepted, number-most, code-last, code-more, put-room}
+use Rattle.sevens.specs.Sevens.{followed, raw_of, Answer, refused, number_of, Read, code_of, code_length_of, put_of}
+use Rattle.sevens.specs.Laws.{raw_last, raw_more, raw_size, Follow, value_same, number_accepted, number_most, code_last, code_more, put_room}
 
 -- ---- reading group after group
 
@@ -23,141 +23,141 @@ carried v scale i Long = Long
 carried v scale i (Value zero k) = Long
 carried v scale i (Value (suc w) k) = Value (v + scale * suc w) (k + i)
 
-carried-value : (v scale i w k : ℕ) → 1 ≤ w → carried v scale i (Value w k) ≡ Value (v + scale * w) (k + i)
+carried_value : (v scale i w k : ℕ) → 1 ≤ w → carried v scale i (Value w k) ≡ Value (v + scale * w) (k + i)
 unfolding carried
-carried-value v scale i zero k h = absurd (omega arith)
-carried-value v scale i (suc w) k h = refl
+carried_value v scale i zero k h = absurd (omega arith)
+carried_value v scale i (suc w) k h = refl
 
 -- one group more
-carried-followed : (v scale i b : ℕ) (x : Raw) → carried v scale i (followed b x) ≡ carried (v + (b - 128) * scale) (scale * 128) (i + 1) x
+carried_followed : (v scale i b : ℕ) (x : Raw) → carried v scale i (followed b x) ≡ carried (v + (b - 128) * scale) (scale * 128) (i + 1) x
 unfolding carried followed
-carried-followed v scale i b Cut = refl
-carried-followed v scale i b Long = refl
-carried-followed v scale i b (Value zero k) = refl
-carried-followed v scale i b (Value (suc w) k) =
-    carried-value v scale i (b - 128 + 128 * suc w) (k + 1) (omega arith) ∙ value_same _ _ _ _ (omega arith) (omega arith)
+carried_followed v scale i b Cut = refl
+carried_followed v scale i b Long = refl
+carried_followed v scale i b (Value zero k) = refl
+carried_followed v scale i b (Value (suc w) k) =
+    carried_value v scale i (b - 128 + 128 * suc w) (k + 1) (omega arith) ∙ value_same _ _ _ _ (omega arith) (omega arith)
 
-followed-carried : (b : ℕ) (x : Raw) → followed b x ≡ carried (b - 128) 128 1 x
+followed_carried : (b : ℕ) (x : Raw) → followed b x ≡ carried (b - 128) 128 1 x
 unfolding carried followed
-followed-carried b Cut = refl
-followed-carried b Long = refl
-followed-carried b (Value zero k) = refl
-followed-carried b (Value (suc w) k) = refl
+followed_carried b Cut = refl
+followed_carried b Long = refl
+followed_carried b (Value zero k) = refl
+followed_carried b (Value (suc w) k) = refl
 
 -- where groups and bytes are left, the number is that of the byte at i and what comes after it
-raw_at : (g i : ℕ) (s : List ℕ) → i < g → i < length s → rawOf (g - i) (drop i s) ≡ rawOf (suc (g - (i + 1))) (get_or s i 0 ∷ drop (i + 1) s)
+raw_at : (g i : ℕ) (s : List ℕ) → i < g → i < length s → raw_of (g - i) (drop i s) ≡ raw_of (suc (g - (i + 1))) (get_or s i 0 ∷ drop (i + 1) s)
 raw_at g i s h f =
     let e : g - i ≡ suc (g - (i + 1)) = omega arith in
-    ap (λ n. rawOf n (drop i s)) e ∙ rw (add-one, drop-cons s i 0)
+    ap (λ n. raw_of n (drop i s)) e ∙ rw (add-one, drop-cons s i 0)
 
-pub raw-none : (g : ℕ) (s : List ℕ) → (1 ≤ g) × (length s ≡ 0) → rawOf g s ≡ Cut
-unfolding rawOf
-raw-none zero s h = absurd (omega arith)
-raw-none (suc g) [] h = refl
-raw-none (suc g) (b ∷ s) h = absurd (omega arith)
+pub raw_none : (g : ℕ) (s : List ℕ) → (1 ≤ g) × (length s ≡ 0) → raw_of g s ≡ Cut
+unfolding raw_of
+raw_none zero s h = absurd (omega arith)
+raw_none (suc g) [] h = refl
+raw_none (suc g) (b ∷ s) h = absurd (omega arith)
 
-pub raw-one : (g b : ℕ) (s : List ℕ) → (1 ≤ g) × (1 ≤ length s) × (b ≡ get_or s 0 0) × (b < 128) → rawOf g s ≡ Value b 1
-raw-one zero b s h = absurd (omega arith)
-raw-one (suc g) b [] h = absurd (omega arith)
-raw-one (suc g) b (a ∷ s) h = raw-last g a s (omega arith) ∙ value_same _ _ _ _ (sym h.2) refl
+pub raw_one : (g b : ℕ) (s : List ℕ) → (1 ≤ g) × (1 ≤ length s) × (b ≡ get_or s 0 0) × (b < 128) → raw_of g s ≡ Value b 1
+raw_one zero b s h = absurd (omega arith)
+raw_one (suc g) b [] h = absurd (omega arith)
+raw_one (suc g) b (a ∷ s) h = raw_last g a s (omega arith) ∙ value_same _ _ _ _ (sym h.2) refl
 
-pub carried-start : (g b : ℕ) (s : List ℕ) → (1 ≤ g) × (1 ≤ length s) × (b ≡ get_or s 0 0) × (128 ≤ b)
-    → rawOf g s ≡ carried (b - 128) 128 1 (rawOf (g - 1) (drop 1 s))
-carried-start zero b s h = absurd (omega arith)
-carried-start (suc g) b [] h = absurd (omega arith)
-carried-start (suc g) b (a ∷ s) h =
+pub carried_start : (g b : ℕ) (s : List ℕ) → (1 ≤ g) × (1 ≤ length s) × (b ≡ get_or s 0 0) × (128 ≤ b)
+    → raw_of g s ≡ carried (b - 128) 128 1 (raw_of (g - 1) (drop 1 s))
+carried_start zero b s h = absurd (omega arith)
+carried_start (suc g) b [] h = absurd (omega arith)
+carried_start (suc g) b (a ∷ s) h =
     let e : g ≡ suc g - 1 = omega arith in
-    raw-more g a s (omega arith)
-    ∙ followed-carried a (rawOf g s)
-    ∙ ap (λ n. carried (a - 128) 128 1 (rawOf n s)) e
-    ∙ ap (λ n. carried (n - 128) 128 1 (rawOf (suc g - 1) s)) (sym h.2)
+    raw_more g a s (omega arith)
+    ∙ followed_carried a (raw_of g s)
+    ∙ ap (λ n. carried (a - 128) 128 1 (raw_of n s)) e
+    ∙ ap (λ n. carried (n - 128) 128 1 (raw_of (suc g - 1) s)) (sym h.2)
 
-module _ (x : Raw) (g v scale i : ℕ) (s : List ℕ) (so : x ≡ carried v scale i (rawOf (g - i) (drop i s))) where
-  pub carried-cut : (i < g) × (length s ≤ i) → x ≡ Cut
+module _ (x : Raw) (g v scale i : ℕ) (s : List ℕ) (so : x ≡ carried v scale i (raw_of (g - i) (drop i s))) where
+  pub carried_cut : (i < g) × (length s ≤ i) → x ≡ Cut
   unfolding carried
-  carried-cut h = so ∙ ap (carried v scale i) (raw-none (g - i) (drop i s) (omega (arith, length-drop i s)))
+  carried_cut h = so ∙ ap (carried v scale i) (raw_none (g - i) (drop i s) (omega (arith, length-drop i s)))
 
-  pub carried-zero : (b : ℕ) → (i < g) × (i < length s) × (b ≡ get_or s i 0) × (b ≡ 0) → x ≡ Long
+  pub carried_zero : (b : ℕ) → (i < g) × (i < length s) × (b ≡ get_or s i 0) × (b ≡ 0) → x ≡ Long
   unfolding carried
-  carried-zero b h =
-      so ∙ ap (carried v scale i) (raw_at g i s h.0 h.1 ∙ raw-last _ _ _ (omega arith) ∙ value_same _ 0 _ 1 (omega arith) refl)
+  carried_zero b h =
+      so ∙ ap (carried v scale i) (raw_at g i s h.0 h.1 ∙ raw_last _ _ _ (omega arith) ∙ value_same _ 0 _ 1 (omega arith) refl)
 
-  pub carried-last : (b : ℕ) → (i < g) × (i < length s) × (b ≡ get_or s i 0) × (1 ≤ b) × (b < 128) → x ≡ Value (v + b * scale) (i + 1)
-  carried-last b h =
-      so ∙ ap (carried v scale i) (raw_at g i s h.0 h.1 ∙ raw-last _ _ _ (omega arith) ∙ value_same _ b _ 1 (omega arith) refl)
-      ∙ carried-value v scale i b 1 (omega arith)
+  pub carried_last : (b : ℕ) → (i < g) × (i < length s) × (b ≡ get_or s i 0) × (1 ≤ b) × (b < 128) → x ≡ Value (v + b * scale) (i + 1)
+  carried_last b h =
+      so ∙ ap (carried v scale i) (raw_at g i s h.0 h.1 ∙ raw_last _ _ _ (omega arith) ∙ value_same _ b _ 1 (omega arith) refl)
+      ∙ carried_value v scale i b 1 (omega arith)
       ∙ value_same _ _ _ _ (omega arith) (omega arith)
 
-  pub carried-again : (b : ℕ) → (i < g) × (i < length s) × (b ≡ get_or s i 0) × (128 ≤ b)
-      → x ≡ carried (v + (b - 128) * scale) (scale * 128) (i + 1) (rawOf (g - (i + 1)) (drop (i + 1) s))
-  carried-again b h =
-      so ∙ ap (carried v scale i) (raw_at g i s h.0 h.1 ∙ raw-more _ _ _ (omega arith))
-      ∙ carried-followed v scale i _ _
-      ∙ ap (λ n. carried (v + (n - 128) * scale) (scale * 128) (i + 1) (rawOf (g - (i + 1)) (drop (i + 1) s))) (sym h.2)
+  pub carried_again : (b : ℕ) → (i < g) × (i < length s) × (b ≡ get_or s i 0) × (128 ≤ b)
+      → x ≡ carried (v + (b - 128) * scale) (scale * 128) (i + 1) (raw_of (g - (i + 1)) (drop (i + 1) s))
+  carried_again b h =
+      so ∙ ap (carried v scale i) (raw_at g i s h.0 h.1 ∙ raw_more _ _ _ (omega arith))
+      ∙ carried_followed v scale i _ _
+      ∙ ap (λ n. carried (v + (n - 128) * scale) (scale * 128) (i + 1) (raw_of (g - (i + 1)) (drop (i + 1) s))) (sym h.2)
 
-  pub carried-long : g ≤ i → x ≡ Long
-  unfolding carried rawOf
-  carried-long h =
+  pub carried_long : g ≤ i → x ≡ Long
+  unfolding carried raw_of
+  carried_long h =
       let e : g - i ≡ 0 = omega arith in
-      so ∙ ap (λ n. carried v scale i (rawOf n (drop i s))) e
+      so ∙ ap (λ n. carried v scale i (raw_of n (drop i s))) e
 
 -- a group b more does not wrap
 abbrev pub Turn : ℕ → ℕ → ℕ → Type 0
 Turn scale v b = (b * scale < 2 ^ 63) × (v + b * scale < scale * 128) × (scale * 128 ≤ 2 ^ 63)
 
 -- that is so as long as there are at most nine groups
-pub turn-fits : (g i scale v b : ℕ) → (i < g) × (g ≤ 9) × (scale ≡ 128 ^ i) × (v < scale) × (b < 128) → Turn scale v b
-turn-fits g i scale v b h =
+pub turn_fits : (g i scale v b : ℕ) → (i < g) × (g ≤ 9) × (scale ≡ 128 ^ i) × (v < scale) × (b < 128) → Turn scale v b
+turn_fits g i scale v b h =
     let p : 128 ^ i ≤ 128 ^ 8 = pow-le-pow_right {n = 128} (omega arith) {i = i} {j = 8} (omega arith) in
     let q : b * scale ≤ 127 * scale = mul-le-mul (omega arith) (omega arith) in
     omega arith
 
-pub scale-again : (i scale : ℕ) → scale ≡ 128 ^ i → scale * 128 ≡ 128 ^ (i + 1)
-scale-again i scale e = rw (add-one, pow-suc, e)
+pub scale_again : (i scale : ℕ) → scale ≡ 128 ^ i → scale * 128 ≡ 128 ^ (i + 1)
+scale_again i scale e = rw (add-one, pow-suc, e)
 
 -- ---- looking for the byte that breaks the rule
 
-pub follow-next : (s : List ℕ) (k : ℕ) → Follow s k → 128 ≤ get_or s k 0 → Follow s (k + 1)
-follow-next s k f h i l =
+pub follow_next : (s : List ℕ) (k : ℕ) → Follow s k → 128 ≤ get_or s k 0 → Follow s (k + 1)
+follow_next s k f h i l =
     by_cases (dec_lt i k)
     (λ j. f i j)
     (λ j. let e : k ≡ i = omega arith in subst (λ n. 128 ≤ get_or s n 0) e h)
 
 -- ---- what a reading hands back
 
-pub read-refused : (g : ℕ) (s : List ℕ) (low high number at : ℕ) (r : List ℕ) (from to : ℕ × ℕ)
+pub read_refused : (g : ℕ) (s : List ℕ) (low high number at : ℕ) (r : List ℕ) (from to : ℕ × ℕ)
     → number_of g s low high ≡ refused number at → 1 ≤ number → (r ≡ []) × (to ≡ from) → Read g s low high 0 number at r from to
-read-refused g s low high number at r from to e n h =
-    record { answer = e ∙ rw h.0; at-start = λ l. h.1; at-end = λ z. absurd (omega arith) }
+read_refused g s low high number at r from to e n h =
+    record { answer = e ∙ rw h.0; at_start = λ l. h.1; at_end = λ z. absurd (omega arith) }
 
 -- the part from k on, as the code makes it
-pub read-accepted : (g : ℕ) (s : List ℕ) (low high v k : ℕ) (from to : ℕ × ℕ) → rawOf g s ≡ Value v k → (low ≤ v) × (v ≤ high)
+pub read_accepted : (g : ℕ) (s : List ℕ) (low high v k : ℕ) (from to : ℕ × ℕ) → raw_of g s ≡ Value v k → (low ≤ v) × (v ≤ high)
     → to.0 ≡ from.0 → to.1 ≡ from.1 + k → Read g s low high v 0 0 (take (length s - k) (drop k s)) from to
-read-accepted g s low high v k from to e h block start =
-    let size = raw-size g s v k e in
+read_accepted g s low high v k from to e h block start =
+    let size = raw_size g s v k e in
     let part : take (length s - k) (drop k s) ≡ drop k s = take_all (length s - k) (drop k s) (omega (arith, length-drop k s)) in
     rw part
     (record {
-      answer = number-accepted g s low high v k e h.0 h.1;
-      at-start = λ l. absurd (omega arith);
-      at-end = λ z. (block, omega (arith, length-drop k s));
+      answer = number_accepted g s low high v k e h.0 h.1;
+      at_start = λ l. absurd (omega arith);
+      at_end = λ z. (block, omega (arith, length-drop k s));
     })
 
 -- a value is at most the highest, so that it fits the width of its limits
-pub read-most : {g : ℕ} {s : List ℕ} {low high v f p : ℕ} {r : List ℕ} {from to : ℕ × ℕ} → Read g s low high v f p r from to → v ≤ high
-read-most {g} {s} {low} {high} h = subst (λ (a : Answer). a.value ≤ high) h.answer (number-most g s low high)
+pub read_most : {g : ℕ} {s : List ℕ} {low high v f p : ℕ} {r : List ℕ} {from to : ℕ × ℕ} → Read g s low high v f p r from to → v ≤ high
+read_most {g} {s} {low} {high} h = subst (λ (a : Answer). a.value ≤ high) h.answer (number_most g s low high)
 
 -- ---- writing group after group
 
 -- what is still to be written leaves the same buffer after one group more
 pub write_again : (all out : List ℕ) (i left b : ℕ) → all ≡ sets out i (code_of left) → (128 ≤ left) × (b ≡ left % 128 + 128)
     → all ≡ sets (set out i b) (i + 1) (code_of (left / 128))
-write_again all out i left b so h = so ∙ ap (sets out i) (code-more left h.0) ∙ rw (add-one, h.1)
+write_again all out i left b so h = so ∙ ap (sets out i) (code_more left h.0) ∙ rw (add-one, h.1)
 
-pub write-last : (all out : List ℕ) (i left b : ℕ) → all ≡ sets out i (code_of left) → (left < 128) × (b ≡ left) → all ≡ set out i b
-write-last all out i left b so h = so ∙ ap (sets out i) (code-last left h.0) ∙ rw h.1
+pub write_last : (all out : List ℕ) (i left b : ℕ) → all ≡ sets out i (code_of left) → (left < 128) × (b ≡ left) → all ≡ set out i b
+write_last all out i left b so h = so ∙ ap (sets out i) (code_last left h.0) ∙ rw h.1
 
 -- the whole of it, where there was room
-pub write-all : (v : ℕ) (out now : List ℕ) (at count : ℕ) → sets out at (code_of v) ≡ now → (count ≡ codeLength v) × (at + count ≤ length out)
+pub write_all_lem : (v : ℕ) (out now : List ℕ) (at count : ℕ) → sets out at (code_of v) ≡ now → (count ≡ code_length_of v) × (at + count ≤ length out)
     → put_of v out at ≡ record { buffer = now; count = count }
-write-all v out now at count e h = put-room v out at (omega arith) ∙ rw (e, h.0)
+write_all_lem v out now at count e h = put_room v out at (omega arith) ∙ rw (e, h.0)

@@ -1,6 +1,6 @@
 // Numbers in groups of seven bits: one read off the front of lent bytes, one written into a lent buffer.
 ghost use Rattle.std.specs.Prelude.{[], ◌≡◌, ◌+◌, ◌≤◌, ◌<◌, length, get_or};
-ghost use Rattle.sevens.specs.Sevens.{rawOf, cutPlace, longPlace, Read, codeLength, put_of};
+ghost use Rattle.sevens.specs.Sevens.{raw_of, cut_place_of, long_place_of, Read, code_length_of, put_of};
 
 // A number has at most this many groups.
 pub const GROUPS: usize = 3;
@@ -29,7 +29,7 @@ fn wide(x: u8) -> u64
 // The number at the front, whose first byte says that another follows.
 fn several(bytes: &[u8], groups: usize) -> Raw
     requires { (1 ≤ groups) × (groups ≤ 9) × (128 ≤ get_or bytes.now 0 0) × (1 ≤ length bytes.now) }
-    ensures { result ≡ rawOf groups bytes.now }
+    ensures { result ≡ raw_of groups bytes.now }
 {
     let mut value = wide(bytes[0]) - 128;
     let mut scale = 128u64;
@@ -55,7 +55,7 @@ fn several(bytes: &[u8], groups: usize) -> Raw
 // The number at the front: one group is the common case.
 fn written(bytes: &[u8], groups: usize) -> Raw
     requires { (1 ≤ groups) × (groups ≤ 9) }
-    ensures { result ≡ rawOf groups bytes.now }
+    ensures { result ≡ raw_of groups bytes.now }
 {
     if bytes.len() == 0 {
         return Raw::Cut;
@@ -69,7 +69,7 @@ fn written(bytes: &[u8], groups: usize) -> Raw
 
 // The place of refusal 1: after the last byte, where the missing one would be.
 fn cut_place(bytes: &[u8], groups: usize) -> usize
-    ensures { result ≡ cutPlace groups bytes.now }
+    ensures { result ≡ cut_place_of groups bytes.now }
 {
     bytes.len()
 }
@@ -77,7 +77,7 @@ fn cut_place(bytes: &[u8], groups: usize) -> usize
 // The place of refusal 2: the byte that breaks the rule, which is the last that there may be, or else the last group, which is zero.
 fn long_place(bytes: &[u8], groups: usize) -> usize
     requires { 1 ≤ groups }
-    ensures { result ≡ longPlace groups bytes.now }
+    ensures { result ≡ long_place_of groups bytes.now }
 {
     let last = groups - 1;
     let mut i = 0usize;
@@ -170,7 +170,7 @@ pub fn number<'a>(
 
 // How many bytes v takes, from 1 to 10.
 pub fn code_length(v: u64) -> usize
-    ensures { result ≡ codeLength v }
+    ensures { result ≡ code_length_of v }
 {
     let mut left = v;
     let mut count = 1usize;

@@ -1,8 +1,8 @@
 -- The search for the first blank, and a table without one as columns.
 --
 --   BlankAt t r     == r is the lowest rule of t with an unknown delay, or m where no delay is unknown
---   timed-same      times ask for the delays of rules alone
---   columns-live, columns-timed   what is said of a table's columns is said of the table
+--   timed_same      times ask for the delays of rules alone
+--   columns_live, columns_timed   what is said of a table's columns is said of the table
 use Rattle.std.specs.Prelude.{◌≡◌, Bool, List, ℕ, ◌+◌, ◌≤◌, ◌<◌, get_or}
 use Rattle.std.proofs.Common.{sym, ap, ◌∙◌, subst, inl, inr, ⊎_elim, arith}
 use Rattle.std.proofs.Math.Logic.{by_cases}
@@ -14,10 +14,10 @@ use Rattle.table.specs.declared.Delay.{Delay}
 use Rattle.table.specs.declared.Delay.TheVariants.{Known, Unknown}
 use Rattle.table.specs.declared.Rule.{Rule}
 use Rattle.table.specs.declared.Table.{Table}
-use Rattle.table.specs.Form.{unusedRule, ruleOf}
-use Rattle.table.specs.Meaning.{used, shape_of, Blank, used-rule}
-use Rattle.columns.specs.Columns.{shape, delayAt}
-use Rattle.columns.specs.Lay.{Laid, laid-shape, laid-least}
+use Rattle.table.specs.Form.{unused_rule, rule_of}
+use Rattle.table.specs.Meaning.{used, shape_of, Blank, used_rule}
+use Rattle.columns.specs.Columns.{shape, delay_at}
+use Rattle.columns.specs.Lay.{Laid, laid_shape, laid_least}
 use Rattle.simulation.specs.Simulation.{delays, NoBlank, FirstBlank}
 
 pub record BlankAt (t : Table) (r : ℕ) : Type 0 where
@@ -26,57 +26,57 @@ pub record BlankAt (t : Table) (r : ℕ) : Type 0 where
   pub none : r ≡ t.m → NoBlank t
 
 -- no rule below r has a blank
-pub record Known-to (t : Table) (r : ℕ) : Type 0 where
+pub record KnownTo (t : Table) (r : ℕ) : Type 0 where
   pub each : (q : ℕ) → q < r → ¬ (Blank t q)
 
 module _ (t : Table) where
-  pub known_start : Known-to t 0
+  pub known_start : KnownTo t 0
   known_start = record { each = λ q l b. omega arith }
 
-  not-unknown : (x : Delay) (d : ℕ) → x ≡ Known d → x ≡ Unknown → ⊥
-  not-unknown x d e f = let z : ◌≡◌ {A = ℕ} 0 1 = cc in omega arith
+  not_unknown : (x : Delay) (d : ℕ) → x ≡ Known d → x ≡ Unknown → ⊥
+  not_unknown x d e f = let z : ◌≡◌ {A = ℕ} 0 1 = cc in omega arith
 
-  pub known_step : (r d : ℕ) → r < t.m → (ruleOf t r).delay ≡ Known d → Known-to t r → Known-to t (r + 1)
+  pub known_step : (r d : ℕ) → r < t.m → (rule_of t r).delay ≡ Known d → KnownTo t r → KnownTo t (r + 1)
   known_step r d l e old =
       record {
         each = λ q a b.
             by_cases (ℕ_discrete q r)
-            (λ s. not-unknown (ruleOf t r).delay d e (ap (λ (x : Rule). x.delay) (sym (used-rule t r l)) ∙ subst (λ x. (get_or (used t) x unusedRule).delay ≡ Unknown) s b.1))
+            (λ s. not_unknown (rule_of t r).delay d e (ap (λ (x : Rule). x.delay) (sym (used_rule t r l)) ∙ subst (λ x. (get_or (used t) x unused_rule).delay ≡ Unknown) s b.1))
             (λ n. old.each q (omega arith) b);
       }
 
-  pub blank-here : (r : ℕ) → r < t.m → (ruleOf t r).delay ≡ Unknown → Known-to t r → BlankAt t r
-  blank-here r l e old =
+  pub blank_here : (r : ℕ) → r < t.m → (rule_of t r).delay ≡ Unknown → KnownTo t r → BlankAt t r
+  blank_here r l e old =
       record {
         low = omega arith;
-        here = λ h. record { blank = (l, ap (λ (x : Rule). x.delay) (used-rule t r l) ∙ e); before = old.each };
+        here = λ h. record { blank = (l, ap (λ (x : Rule). x.delay) (used_rule t r l) ∙ e); before = old.each };
         none = λ s. absurd (omega arith);
       }
 
-  pub blank_none : Known-to t t.m → BlankAt t t.m
+  pub blank_none : KnownTo t t.m → BlankAt t t.m
   blank_none old = record { low = omega arith; here = λ h. absurd (omega arith); none = λ s q b. old.each q b.0 b }
 
 -- delays that agree on the rules have the same times
 module _ (S : Shape) (D E : ℕ → ℕ) (same : (r : ℕ) → r < S.rules → D r ≡ E r) where
-  cause-same : (T : ℕ → ℕ → ℕ) (i v : ℕ) → Cause S D T i v → Cause S E T i v
-  cause-same T i v c = record { rule = c.rule; acts = c.acts; exact = omega (arith, c.exact, same c.rule c.acts.is-rule) }
+  cause_same : (T : ℕ → ℕ → ℕ) (i v : ℕ) → Cause S D T i v → Cause S E T i v
+  cause_same T i v c = record { rule = c.rule; acts = c.acts; exact = omega (arith, c.exact, same c.rule c.acts.is_rule) }
 
-  time-same : (T : ℕ → ℕ → ℕ) (i v : ℕ) → IsTime S D T i v → IsTime S E T i v
-  time-same T i v x =
+  time_same : (T : ℕ → ℕ → ℕ) (i v : ℕ) → IsTime S D T i v → IsTime S E T i v
+  time_same T i v x =
       record {
-        late-enough = λ r h. omega (arith, x.late-enough r h, same r h.is-rule);
-        no-later = ⊎_elim inl (λ c. inr (cause-same T i v c)) x.no-later;
+        late_enough = λ r h. omega (arith, x.late_enough r h, same r h.is_rule);
+        no_later = ⊎_elim inl (λ c. inr (cause_same T i v c)) x.no_later;
       }
 
-  timed-same : (N n : ℕ) (out₀ out : List ℕ) → Timed S D N n out₀ out → Timed S E N n out₀ out
-  timed-same N n out₀ out x =
-      record { T = x.T; times = λ i v a b. time-same x.T i v (x.times i v a b); size = x.size; rows = x.rows; rest = x.rest }
+  timed_same : (N n : ℕ) (out₀ out : List ℕ) → Timed S D N n out₀ out → Timed S E N n out₀ out
+  timed_same N n out₀ out x =
+      record { T = x.T; times = λ i v a b. time_same x.T i v (x.times i v a b); size = x.size; rows = x.rows; rest = x.rest }
 
 module _ (t : Table) (source target offset least greatest : List ℕ) (blank : Bool) (laid : Laid t t.m source target offset least greatest blank) where
-  pub columns-live : Live (shape_of t) → Live (shape source target offset t.m)
-  columns-live live = subst Live (sym (laid-shape t source target offset least greatest blank laid)) live
+  pub columns_live : Live (shape_of t) → Live (shape source target offset t.m)
+  columns_live live = subst Live (sym (laid_shape t source target offset least greatest blank laid)) live
 
-  pub columns-timed : (N n : ℕ) (out₀ out : List ℕ) → Timed (shape source target offset t.m) (delayAt least) N n out₀ out → Timed (shape_of t) (delays t) N n out₀ out
-  columns-timed N n out₀ out x =
-      timed-same (shape_of t) (delayAt least) (delays t) (laid-least t source target offset least greatest blank laid) N n out₀ out
-      (subst (λ (S : Shape). Timed S (delayAt least) N n out₀ out) (laid-shape t source target offset least greatest blank laid) x)
+  pub columns_timed : (N n : ℕ) (out₀ out : List ℕ) → Timed (shape source target offset t.m) (delay_at least) N n out₀ out → Timed (shape_of t) (delays t) N n out₀ out
+  columns_timed N n out₀ out x =
+      timed_same (shape_of t) (delay_at least) (delays t) (laid_least t source target offset least greatest blank laid) N n out₀ out
+      (subst (λ (S : Shape). Timed S (delay_at least) N n out₀ out) (laid_shape t source target offset least greatest blank laid) x)

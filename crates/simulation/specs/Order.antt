@@ -28,7 +28,7 @@ use Rattle.std.proofs.Math.Decide.{ℕ_discrete, dec_lt}
 use Rattle.std.proofs.Math.ListN.{get_or}
 use Rattle.std.proofs.lemmas.List.{length-replicate}
 use Rattle.std.proofs.Math.Seq.{get_or-set_same, get_or-set_other}
-use Rattle.theory.specs.Relax.{zeros-at}
+use Rattle.theory.specs.Relax.{zeros_at}
 use Rattle.simulation.specs.Groups.{Within, Bounded}
 
 pub record Blocked (sources offsets : List ℕ) (from to : ℕ) (done : List ℕ) : Type 0 where
@@ -75,8 +75,8 @@ total done (suc k) = total done k + get_or done k 0
 
 pub record Placing (sources offsets first : List ℕ) (n k : ℕ) (order done : List ℕ) : Type 0 where
   pub ordered : Ordered sources offsets first n k order
-  pub order-room : length order ≡ 256
-  pub done-room : length done ≡ 256
+  pub order_room : length order ≡ 256
+  pub done_room : length done ≡ 256
   pub count : total done n ≡ k
   pub flags : (v : ℕ) → get_or done v 0 ≤ 1
   pub marked : (i : ℕ) → i < k → get_or done (get_or order i 0) 0 ≡ 1
@@ -85,78 +85,78 @@ pub record Placing (sources offsets first : List ℕ) (n k : ℕ) (order done : 
 -- how many are done ----------------------------------------------------------------------------------------------------------------------------
 module _ (done : List ℕ) where
   -- one more
-  total-other : (v k : ℕ) → k ≤ v → total (set done v 1) k ≡ total done k
+  total_other : (v k : ℕ) → k ≤ v → total (set done v 1) k ≡ total done k
   unfolding total
-  total-other v zero l = refl
-  total-other v (suc k) l = omega (arith, total-other v k (omega arith), get_or-set_other done v k 1 0 (λ e. omega arith))
+  total_other v zero l = refl
+  total_other v (suc k) l = omega (arith, total_other v k (omega arith), get_or-set_other done v k 1 0 (λ e. omega arith))
 
-  total-mark : (v k : ℕ) → v < length done → get_or done v 0 ≡ 0 → v < k → total (set done v 1) k ≡ total done k + 1
+  total_mark : (v k : ℕ) → v < length done → get_or done v 0 ≡ 0 → v < k → total (set done v 1) k ≡ total done k + 1
   unfolding total
-  total-mark v zero r u l = absurd (omega arith)
-  total-mark v (suc k) r u l =
+  total_mark v zero r u l = absurd (omega arith)
+  total_mark v (suc k) r u l =
       by_cases (ℕ_discrete v k)
-      (λ e. omega (arith, total-other v k (omega arith), ap (λ x. get_or (set done v 1) x 0) e, ap (λ x. get_or done x 0) e, get_or-set_same done v 1 0 r))
-      (λ d. omega (arith, total-mark v k r u (omega arith), get_or-set_other done v k 1 0 (λ e. d (sym e))))
+      (λ e. omega (arith, total_other v k (omega arith), ap (λ x. get_or (set done v 1) x 0) e, ap (λ x. get_or done x 0) e, get_or-set_same done v 1 0 r))
+      (λ d. omega (arith, total_mark v k r u (omega arith), get_or-set_other done v k 1 0 (λ e. d (sym e))))
 
   -- all of them
-  total-all : (k : ℕ) → ((v : ℕ) → v < k → get_or done v 0 ≡ 1) → total done k ≡ k
+  total_all : (k : ℕ) → ((v : ℕ) → v < k → get_or done v 0 ≡ 1) → total done k ≡ k
   unfolding total
-  total-all zero h = refl
-  total-all (suc k) h = omega (arith, total-all k (λ v l. h v (omega arith)), h k (omega arith))
+  total_all zero h = refl
+  total_all (suc k) h = omega (arith, total_all k (λ v l. h v (omega arith)), h k (omega arith))
 
   -- and if one is left, fewer
   module _ (flags : (v : ℕ) → get_or done v 0 ≤ 1) where
-    total-most : (k : ℕ) → total done k ≤ k
+    total_most : (k : ℕ) → total done k ≤ k
     unfolding total
-    total-most zero = omega arith
-    total-most (suc k) = omega (arith, total-most k, flags k)
+    total_most zero = omega arith
+    total_most (suc k) = omega (arith, total_most k, flags k)
 
     total_left : (v k : ℕ) → v < k → get_or done v 0 ≡ 0 → total done k < k
     unfolding total
     total_left v zero l u = absurd (omega arith)
     total_left v (suc k) l u =
         by_cases (ℕ_discrete v k)
-        (λ e. omega (arith, total-most k, ap (λ x. get_or done x 0) e))
+        (λ e. omega (arith, total_most k, ap (λ x. get_or done x 0) e))
         (λ d. omega (arith, total_left v k (omega arith) u, flags k))
 
-pub total-none : (L k : ℕ) → total (replicate L 0) k ≡ 0
+pub total_none : (L k : ℕ) → total (replicate L 0) k ≡ 0
 unfolding total
-total-none L zero = refl
-total-none L (suc k) = omega (arith, total-none L k, zeros-at L k)
+total_none L zero = refl
+total_none L (suc k) = omega (arith, total_none L k, zeros_at L k)
 
 -- whether a group is clear ---------------------------------------------------------------------------------------------------------------------
 module _ (sources offsets : List ℕ) (from : ℕ) (done : List ℕ) where
-  pub clear-start : Clear sources offsets from from done
-  clear-start = record { each = λ j a b z. absurd (omega arith) }
+  pub clear_start : Clear sources offsets from from done
+  clear_start = record { each = λ j a b z. absurd (omega arith) }
 
   pub clear_step : (k : ℕ) → Clear sources offsets from k done → (get_or offsets k 0 ≡ 0 → get_or done (get_or sources k 0) 0 ≢ 0) → Clear sources offsets from (k + 1) done
   clear_step k old new = record { each = λ j a b z. by_cases (ℕ_discrete j k) (λ e. rw e (new (rw e at z))) (λ d. old.each j a (omega arith) z) }
 
-  pub ready-clear : (to k : ℕ) → to ≤ k → Clear sources offsets from k done → Ready sources offsets from to done true
-  ready-clear to k l h = record { clear = λ e. record { each = λ j a b. h.each j a (omega arith) }; blocked = λ e. absurd (true≢false e) }
+  pub ready_clear : (to k : ℕ) → to ≤ k → Clear sources offsets from k done → Ready sources offsets from to done true
+  ready_clear to k l h = record { clear = λ e. record { each = λ j a b. h.each j a (omega arith) }; blocked = λ e. absurd (true≢false e) }
 
-  pub ready-blocked : (to j s : ℕ) → from ≤ j → j < to → get_or offsets j 0 ≡ 0 → s ≡ get_or sources j 0 → get_or done s 0 ≡ 0 → Ready sources offsets from to done false
-  ready-blocked to j s a b z e u =
+  pub ready_blocked : (to j s : ℕ) → from ≤ j → j < to → get_or offsets j 0 ≡ 0 → s ≡ get_or sources j 0 → get_or done s 0 ≡ 0 → Ready sources offsets from to done false
+  ready_blocked to j s a b z e u =
       record { clear = λ f. absurd (false≢true f); blocked = λ f. record { place = j; from_low = a; to_high = b; at_once = z; undone = rw (← e) u } }
 
 -- the next transition --------------------------------------------------------------------------------------------------------------------------
 module _ (sources offsets first done : List ℕ) where
-  pub stuck-start : Stuck sources offsets first done 0
-  stuck-start = record { each = λ u l z. absurd (omega arith) }
+  pub stuck_start : Stuck sources offsets first done 0
+  stuck_start = record { each = λ u l z. absurd (omega arith) }
 
-  stuck-step : (v : ℕ) → Stuck sources offsets first done v → (get_or done v 0 ≡ 0 → Blocked sources offsets (get_or first v 0) (get_or first (v + 1) 0) done)
+  stuck_step : (v : ℕ) → Stuck sources offsets first done v → (get_or done v 0 ≡ 0 → Blocked sources offsets (get_or first v 0) (get_or first (v + 1) 0) done)
       → Stuck sources offsets first done (v + 1)
-  stuck-step v old new = record { each = λ u l z. by_cases (ℕ_discrete u v) (λ e. rw e (new (rw e at z))) (λ d. old.each u (omega arith) z) }
+  stuck_step v old new = record { each = λ u l z. by_cases (ℕ_discrete u v) (λ e. rw e (new (rw e at z))) (λ d. old.each u (omega arith) z) }
 
-  pub stuck-done : (v : ℕ) → Stuck sources offsets first done v → get_or done v 0 ≢ 0 → Stuck sources offsets first done (v + 1)
-  stuck-done v old d = stuck-step v old (λ z. absurd (d z))
+  pub stuck_done : (v : ℕ) → Stuck sources offsets first done v → get_or done v 0 ≢ 0 → Stuck sources offsets first done (v + 1)
+  stuck_done v old d = stuck_step v old (λ z. absurd (d z))
 
   pub found_none : (n : ℕ) → Stuck sources offsets first done n → Found sources offsets first n done n
   found_none n h = record { low = omega arith; undone = λ a. absurd (omega arith); clear = λ a. absurd (omega arith); stuck = λ e. h }
 
   module _ (v from to : ℕ) (r : Bool) (a : from ≡ get_or first v 0) (b : to ≡ get_or first (v + 1) 0) (ready : Ready sources offsets from to done r) where
-    pub stuck-blocked : Stuck sources offsets first done v → r ≡ false → Stuck sources offsets first done (v + 1)
-    stuck-blocked old f = stuck-step v old (λ z. rw (a, b) at (ready.blocked f))
+    pub stuck_blocked : Stuck sources offsets first done v → r ≡ false → Stuck sources offsets first done (v + 1)
+    stuck_blocked old f = stuck_step v old (λ z. rw (a, b) at (ready.blocked f))
 
     pub found_here : (n : ℕ) → v < n → get_or done v 0 ≡ 0 → r ≡ true → Found sources offsets first n done v
     found_here n l u t =
@@ -164,16 +164,16 @@ module _ (sources offsets first done : List ℕ) where
 
 -- place after place ----------------------------------------------------------------------------------------------------------------------------
 module _ (sources offsets first : List ℕ) (n : ℕ) where
-  pub placing-start : Placing sources offsets first n 0 (replicate 256 0) (replicate 256 0)
-  placing-start =
+  pub placing_start : Placing sources offsets first n 0 (replicate 256 0) (replicate 256 0)
+  placing_start =
       record {
         ordered = record { low = λ i l. absurd (omega arith); different = λ h i a b. absurd (omega arith); source_first = λ i j l w z. absurd (omega arith) };
-        order-room = length-replicate {A = ℕ} 256 0;
-        done-room = length-replicate {A = ℕ} 256 0;
-        count = total-none 256 n;
-        flags = λ v. omega (arith, zeros-at 256 v);
+        order_room = length-replicate {A = ℕ} 256 0;
+        done_room = length-replicate {A = ℕ} 256 0;
+        count = total_none 256 n;
+        flags = λ v. omega (arith, zeros_at 256 v);
         marked = λ i l. absurd (omega arith);
-        listed = λ v l u. absurd (omega (arith, zeros-at 256 v));
+        listed = λ v l u. absurd (omega (arith, zeros_at 256 v));
       }
 
   module _ (bounded : Bounded sources first n) (k : ℕ) (order done : List ℕ) (old : Placing sources offsets first n k order done) where
@@ -186,21 +186,21 @@ module _ (sources offsets first : List ℕ) (n : ℕ) where
     none_left ranked stuck (suc b) v l u h =
         let x = stuck.each v l u in
         let w : Within first v x.place = (x.from_low, x.to_high) in
-        none_left ranked stuck b (get_or sources x.place 0) (bounded.sources-low v x.place l w) x.undone (omega (arith, ranked.rises v x.place l w x.at_once))
+        none_left ranked stuck b (get_or sources x.place 0) (bounded.sources_low v x.place l w) x.undone (omega (arith, ranked.rises v x.place l w x.at_once))
 
     -- while a place is free there is a transition for it
-    pub found-low : Ranked sources offsets first n → k < n → (v : ℕ) → Found sources offsets first n done v → v < n
-    found-low ranked l v f =
+    pub found_low : Ranked sources offsets first n → k < n → (v : ℕ) → Found sources offsets first n done v → v < n
+    found_low ranked l v f =
         by_cases (dec_lt v n)
         (λ a. a)
         (λ a.
         let e : v ≡ n = omega (arith, f.low) in
-        let all = total-all done n (λ u b. flag u (λ z. none_left ranked (f.stuck e) (suc (get_or ranked.rank u 0)) u b z (omega arith))) in
+        let all = total_all done n (λ u b. flag u (λ z. none_left ranked (f.stuck e) (suc (get_or ranked.rank u 0)) u b z (omega arith))) in
         absurd (omega (arith, old.count)))
 
     -- when all places are filled every transition has one
-    pub placing-end : k ≡ n → Complete sources offsets first n order
-    placing-end e =
+    pub placing_end : k ≡ n → Complete sources offsets first n order
+    placing_end e =
         record {
           ordered = subst (λ x. Ordered sources offsets first n x order) e old.ordered;
           all = λ v l.
@@ -218,64 +218,64 @@ module _ (sources offsets first : List ℕ) (n : ℕ) where
       undone : get_or done v 0 ≡ 0
       undone = f.undone l
 
-      order-here : get_or order' k 0 ≡ v
-      order-here = get_or-set_same order k v 0 (omega (arith, old.order-room, bounded.few))
+      order_here : get_or order' k 0 ≡ v
+      order_here = get_or-set_same order k v 0 (omega (arith, old.order_room, bounded.few))
 
       order_same : (i : ℕ) → i < k → get_or order' i 0 ≡ get_or order i 0
       order_same i b = get_or-set_other order k i v 0 (λ e. omega arith)
 
-      done-here : get_or done' v 0 ≡ 1
-      done-here = get_or-set_same done v 1 0 (omega (arith, old.done-room, bounded.few))
+      done_here : get_or done' v 0 ≡ 1
+      done_here = get_or-set_same done v 1 0 (omega (arith, old.done_room, bounded.few))
 
       -- a fact of the last place and of those before is one of each
       each : (C : ℕ → ℕ → Type 0) → ((i : ℕ) → i < k → C i (get_or order i 0)) → C k v → (i : ℕ) → i < k + 1 → C i (get_or order' i 0)
       each C a b i c =
           by_cases (ℕ_discrete i k)
-          (λ e. rw (e, order-here) b)
+          (λ e. rw (e, order_here) b)
           (λ d. let h : i < k = omega arith in rw (order_same i h) (a i h))
 
-      next-different : (h i : ℕ) → h < i → i < k + 1 → get_or order' h 0 ≢ get_or order' i 0
-      next-different h i a b =
+      next_different : (h i : ℕ) → h < i → i < k + 1 → get_or order' h 0 ≢ get_or order' i 0
+      next_different h i a b =
           each (λ i x. h < i → get_or order' h 0 ≢ x)
           (λ i c a. rw (order_same h (omega arith)) (old.ordered.different h i a c))
           (λ a e. omega (arith, ap (λ x. get_or done x 0) (sym (order_same h a) ∙ e), old.marked h a, undone))
           i b a
 
-      next-first : (i j : ℕ) → i < k + 1 → Within first (get_or order' i 0) j → get_or offsets j 0 ≡ 0 → (h : ℕ) × (h < i) × (get_or order' h 0 ≡ get_or sources j 0)
-      next-first i j b =
+      next_first : (i j : ℕ) → i < k + 1 → Within first (get_or order' i 0) j → get_or offsets j 0 ≡ 0 → (h : ℕ) × (h < i) × (get_or order' h 0 ≡ get_or sources j 0)
+      next_first i j b =
           each (λ i x. Within first x j → get_or offsets j 0 ≡ 0 → (h : ℕ) × (h < i) × (get_or order' h 0 ≡ get_or sources j 0))
           (λ i c w z. let p = old.ordered.source_first i j c w z in (p.0, p.1, order_same p.0 (omega (arith, p.1)) ∙ p.2))
           (λ w z.
           let s = get_or sources j 0 in
-          let p = old.listed s (bounded.sources-low v j l w) (flag s ((f.clear l).each j w.0 w.1 z)) in
+          let p = old.listed s (bounded.sources_low v j l w) (flag s ((f.clear l).each j w.0 w.1 z)) in
           (p.0, p.1, order_same p.0 p.1 ∙ p.2))
           i b
 
-      next-flags : (u : ℕ) → get_or done' u 0 ≤ 1
-      next-flags u = by_cases (ℕ_discrete u v) (λ e. rw e (omega (arith, done-here))) (λ d. rw (get_or-set_other done v u 1 0 d) (old.flags u))
+      next_flags : (u : ℕ) → get_or done' u 0 ≤ 1
+      next_flags u = by_cases (ℕ_discrete u v) (λ e. rw e (omega (arith, done_here))) (λ d. rw (get_or-set_other done v u 1 0 d) (old.flags u))
 
-      next-marked : (i : ℕ) → i < k + 1 → get_or done' (get_or order' i 0) 0 ≡ 1
-      next-marked =
+      next_marked : (i : ℕ) → i < k + 1 → get_or done' (get_or order' i 0) 0 ≡ 1
+      next_marked =
           each (λ i x. get_or done' x 0 ≡ 1)
           (λ i c. get_or-set_other done v (get_or order i 0) 1 0 (λ e. omega (arith, ap (λ x. get_or done x 0) e, old.marked i c, undone)) ∙ old.marked i c)
-          done-here
+          done_here
 
-      next-listed : (u : ℕ) → u < n → get_or done' u 0 ≡ 1 → (i : ℕ) × (i < k + 1) × (get_or order' i 0 ≡ u)
-      next-listed u b m =
+      next_listed : (u : ℕ) → u < n → get_or done' u 0 ≡ 1 → (i : ℕ) × (i < k + 1) × (get_or order' i 0 ≡ u)
+      next_listed u b m =
           by_cases (ℕ_discrete u v)
-          (λ e. (k, omega arith, order-here ∙ sym e))
+          (λ e. (k, omega arith, order_here ∙ sym e))
           (λ d.
           let p = old.listed u b (sym (get_or-set_other done v u 1 0 d) ∙ m) in
           (p.0, omega (arith, p.1), order_same p.0 p.1 ∙ p.2))
 
-      pub placing-step : Placing sources offsets first n (k + 1) (set order k v) (set done v 1)
-      placing-step =
+      pub placing_step : Placing sources offsets first n (k + 1) (set order k v) (set done v 1)
+      placing_step =
           record {
-            ordered = record { low = each (λ i x. x < n) old.ordered.low l; different = next-different; source_first = next-first };
-            order-room = simp length-set old.order-room;
-            done-room = simp length-set old.done-room;
-            count = omega (arith, total-mark done v n (omega (arith, old.done-room, bounded.few)) undone l, old.count);
-            flags = next-flags;
-            marked = next-marked;
-            listed = next-listed;
+            ordered = record { low = each (λ i x. x < n) old.ordered.low l; different = next_different; source_first = next_first };
+            order_room = simp length-set old.order_room;
+            done_room = simp length-set old.done_room;
+            count = omega (arith, total_mark done v n (omega (arith, old.done_room, bounded.few)) undone l, old.count);
+            flags = next_flags;
+            marked = next_marked;
+            listed = next_listed;
           }

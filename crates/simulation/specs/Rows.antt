@@ -90,43 +90,43 @@ pub record Rows (sources offsets delays first order : List ℕ) (n count : ℕ) 
 
 -- one rule -------------------------------------------------------------------------------------------------------------------------------------
 module _ (best i n s e a : ℕ) (X : List ℕ) where
-  pub larger-asleep : i < e → Larger best i n s e a X best
-  larger-asleep l = record { kept = omega arith; asked = λ h. absurd (omega arith); one = inl refl }
+  pub larger_asleep : i < e → Larger best i n s e a X best
+  larger_asleep l = record { kept = omega arith; asked = λ h. absurd (omega arith); one = inl refl }
 
-  pub larger-kept : at n X (i - e) s + a ≤ best → Larger best i n s e a X best
-  larger-kept l = record { kept = omega arith; asked = λ h. l; one = inl refl }
+  pub larger_kept : at n X (i - e) s + a ≤ best → Larger best i n s e a X best
+  larger_kept l = record { kept = omega arith; asked = λ h. l; one = inl refl }
 
-  pub larger-raised : e ≤ i → best < at n X (i - e) s + a → Larger best i n s e a X (at n X (i - e) s + a)
-  larger-raised h l = record { kept = omega arith; asked = λ h. omega arith; one = inr (h, refl) }
+  pub larger_raised : e ≤ i → best < at n X (i - e) s + a → Larger best i n s e a X (at n X (i - e) s + a)
+  larger_raised h l = record { kept = omega arith; asked = λ h. omega arith; one = inr (h, refl) }
 
 -- one group ------------------------------------------------------------------------------------------------------------------------------------
 module _ (sources offsets delays : List ℕ) (from n i : ℕ) (X : List ℕ) where
-  pub pulled-start : Pulled sources offsets delays from from n i X 0
-  pulled-start = record { all = λ j a b e. absurd (omega arith); one = inl refl }
+  pub pulled_start : Pulled sources offsets delays from from n i X 0
+  pulled_start = record { all = λ j a b e. absurd (omega arith); one = inl refl }
 
   -- a pull among fewer places
-  pull-more : (j best : ℕ) → Pull sources offsets delays from j n i X best → Pull sources offsets delays from (j + 1) n i X best
-  pull-more j best p = record { place = p.place; from_low = p.from_low; to_high = omega (arith, p.to_high); reached = p.reached; exact = p.exact }
+  pull_more : (j best : ℕ) → Pull sources offsets delays from j n i X best → Pull sources offsets delays from (j + 1) n i X best
+  pull_more j best p = record { place = p.place; from_low = p.from_low; to_high = omega (arith, p.to_high); reached = p.reached; exact = p.exact }
 
-  pub pulled-step : (j best r : ℕ) → from ≤ j → Pulled sources offsets delays from j n i X best → Larger best i n (get_or sources j 0) (get_or offsets j 0) (get_or delays j 0) X r
+  pub pulled_step : (j best r : ℕ) → from ≤ j → Pulled sources offsets delays from j n i X best → Larger best i n (get_or sources j 0) (get_or offsets j 0) (get_or delays j 0) X r
       → Pulled sources offsets delays from (j + 1) n i X r
-  pulled-step j best r l old next =
+  pulled_step j best r l old next =
       record {
         all = λ q a b e. by_cases (ℕ_discrete q j) (λ s. rw s (next.asked (rw s at e))) (λ d. le_trans (old.all q a (omega arith) e) next.kept);
         one = ⊎_elim kept here next.one;
       }
     where
       kept : r ≡ best → (r ≡ 0) ⊎ Pull sources offsets delays from (j + 1) n i X r
-      kept e = ⊎_elim (λ z. inl (e ∙ z)) (λ p. inr (rw e (pull-more j best p))) old.one
+      kept e = ⊎_elim (λ z. inl (e ∙ z)) (λ p. inr (rw e (pull_more j best p))) old.one
 
       here : (get_or offsets j 0 ≤ i) × (r ≡ at n X (i - get_or offsets j 0) (get_or sources j 0) + get_or delays j 0) → (r ≡ 0) ⊎ Pull sources offsets delays from (j + 1) n i X r
       here h = inr (record { place = j; from_low = l; to_high = omega arith; reached = h.0; exact = h.1 })
 
   -- the buffer counts only at the places that are read
-  pub pulled-agrees : (to best : ℕ) (Y : List ℕ)
+  pub pulled_agrees : (to best : ℕ) (Y : List ℕ)
       → ((j : ℕ) → from ≤ j → j < to → get_or offsets j 0 ≤ i → at n Y (i - get_or offsets j 0) (get_or sources j 0) ≡ at n X (i - get_or offsets j 0) (get_or sources j 0))
       → Pulled sources offsets delays from to n i X best → Pulled sources offsets delays from to n i Y best
-  pulled-agrees to best Y same old =
+  pulled_agrees to best Y same old =
       record {
         all = λ j a b e. omega (arith, same j a b e, old.all j a b e);
         one = ⊎_elim inl (λ p. inr (move p)) old.one;
@@ -152,20 +152,20 @@ module _ (sources offsets delays first order : List ℕ) (n : ℕ) (plan : Plan 
   written_low i k j u l w = ⊎_elim (λ a. a.1) (λ a. rw a.1.2 at (placed a.1.0 (omega (arith, a.1.1)))) w
 
   -- WHAT A RULE ASKS FOR IS FINAL: its source's occurrence is in an earlier row, or before in the order
-  source-written : (i k j : ℕ) → k < n → Within first (get_or order k 0) j → get_or offsets j 0 ≤ i → Written order n i k (i - get_or offsets j 0) (get_or sources j 0)
-  source-written i k j l w e =
+  source_written : (i k j : ℕ) → k < n → Within first (get_or order k 0) j → get_or offsets j 0 ≤ i → Written order n i k (i - get_or offsets j 0) (get_or sources j 0)
+  source_written i k j l w e =
       by_cases (ℕ_discrete (get_or offsets j 0) 0)
       (λ z. inr (omega arith, plan.complete.ordered.source_first k j l w z))
-      (λ d. inl (omega arith, plan.bounded.sources-low (get_or order k 0) j (placed k l) w))
+      (λ d. inl (omega arith, plan.bounded.sources_low (get_or order k 0) j (placed k l) w))
 
-  sources-written : (i k j u q : ℕ) → k ≤ n → Written order n i k j u → Within first u q → get_or offsets q 0 ≤ j → Written order n i k (j - get_or offsets q 0) (get_or sources q 0)
-  sources-written i k j u q l w g e =
+  sources_written : (i k j u q : ℕ) → k ≤ n → Written order n i k j u → Within first u q → get_or offsets q 0 ≤ j → Written order n i k (j - get_or offsets q 0) (get_or sources q 0)
+  sources_written i k j u q l w g e =
       ⊎_elim
-      (λ a. inl (omega (arith, a.0), plan.bounded.sources-low u q a.1 g))
+      (λ a. inl (omega (arith, a.0), plan.bounded.sources_low u q a.1 g))
       (λ a.
       let h = a.1.0 in
       let below : h < k = a.1.1 in
-      widen h below (source-written j h q (omega arith) (rw (← a.1.2) at g) e) a.0)
+      widen h below (source_written j h q (omega arith) (rw (← a.1.2) at g) e) a.0)
       w
     where
       -- what is written before an earlier place is written
@@ -173,8 +173,8 @@ module _ (sources offsets delays first order : List ℕ) (n : ℕ) (plan : Plan 
       widen h b x s = ⊎_elim (λ a. inl (omega (arith, a.0), a.1)) (λ a. inr (omega (arith, a.0), (a.1.0, omega (arith, a.1.1), a.1.2))) x
 
   -- a written place is not the next one
-  place-differs : (i k j u : ℕ) → k < n → Written order n i k j u → j * n + u ≢ i * n + get_or order k 0
-  place-differs i k j u l w e =
+  place_differs : (i k j u : ℕ) → k < n → Written order n i k j u → j * n + u ≢ i * n + get_or order k 0
+  place_differs i k j u l w e =
       ⊎_elim
       (λ a. omega (arith, a.1, mul-le-mul_right {m = j + 1} {n = i} n (omega (arith, a.0))))
       (λ a.
@@ -200,16 +200,16 @@ module _ (sources offsets delays first order : List ℕ) (n : ℕ) (plan : Plan 
           omega (arith, old.low h u w, plan.bounded.few)
 
       -- the rules of the next transition may ask
-      pub asks-all : i < 1024 → i * n + n ≤ length X → AsksAll sources offsets from to n i X
-      asks-all few room =
+      pub asks_all : i < 1024 → i * n + n ≤ length X → AsksAll sources offsets from to n i X
+      asks_all few room =
           record {
             rising = rw (b, c) (plan.bounded.rising v v_low);
             few = rw c (plan.bounded.ends v v_low);
             each = λ j p q.
                 let w = within j p q in
                 record {
-                  inside = λ e. inside (i - get_or offsets j 0) (get_or sources j 0) (omega arith) (plan.bounded.sources-low (get_or order k 0) j (placed k l) w) room;
-                  low = λ e. low (i - get_or offsets j 0) (get_or sources j 0) few (source-written i k j l w e);
+                  inside = λ e. inside (i - get_or offsets j 0) (get_or sources j 0) (omega arith) (plan.bounded.sources_low (get_or order k 0) j (placed k l) w) room;
+                  low = λ e. low (i - get_or offsets j 0) (get_or sources j 0) few (source_written i k j l w e);
                 };
           }
 
@@ -221,10 +221,10 @@ module _ (sources offsets delays first order : List ℕ) (n : ℕ) (plan : Plan 
         here = get_or-set_same X (i * n + v) best 0 room
 
         same : (j u : ℕ) → Written order n i k j u → at n Y j u ≡ at n X j u
-        same j u w = get_or-set_other X (i * n + v) (j * n + u) best 0 (λ e. place-differs i k j u l w (rw a at e))
+        same j u w = get_or-set_other X (i * n + v) (j * n + u) best 0 (λ e. place_differs i k j u l w (rw a at e))
 
-        best-low : best ≤ (i * n + k) * 1000000 + 1000000
-        best-low =
+        best_low : best ≤ (i * n + k) * 1000000 + 1000000
+        best_low =
             ⊎_elim
             (λ z. omega arith)
             (λ p.
@@ -232,25 +232,25 @@ module _ (sources offsets delays first order : List ℕ) (n : ℕ) (plan : Plan 
             omega (
               arith,
               p.exact,
-              old.low (i - get_or offsets p.place 0) (get_or sources p.place 0) (source-written i k p.place l w p.reached),
+              old.low (i - get_or offsets p.place 0) (get_or sources p.place 0) (source_written i k p.place l w p.reached),
               plan.short (get_or order k 0) p.place (placed k l) w,
             ))
             pulled.one
 
         -- the next transition is done
-        times-here : Pulled sources offsets delays (get_or first v 0) (get_or first (v + 1) 0) n i Y (at n Y i v)
-        times-here =
+        times_here : Pulled sources offsets delays (get_or first v 0) (get_or first (v + 1) 0) n i Y (at n Y i v)
+        times_here =
             rw (here, ← b, ← c)
-            (pulled-agrees sources offsets delays from n i X to best Y
-            (λ j p q e. same (i - get_or offsets j 0) (get_or sources j 0) (source-written i k j l (within j p q) e))
+            (pulled_agrees sources offsets delays from n i X to best Y
+            (λ j p q e. same (i - get_or offsets j 0) (get_or sources j 0) (source_written i k j l (within j p q) e))
             pulled)
 
         -- and the others stay done
-        times-same : (j u : ℕ) → Written order n i k j u → Pulled sources offsets delays (get_or first u 0) (get_or first (u + 1) 0) n j Y (at n Y j u)
-        times-same j u w =
+        times_same : (j u : ℕ) → Written order n i k j u → Pulled sources offsets delays (get_or first u 0) (get_or first (u + 1) 0) n j Y (at n Y j u)
+        times_same j u w =
             rw (same j u w)
-            (pulled-agrees sources offsets delays (get_or first u 0) n j X (get_or first (u + 1) 0) (at n X j u) Y
-            (λ q f g e. same (j - get_or offsets q 0) (get_or sources q 0) (sources-written i k j u q (omega arith) w (f, g) e))
+            (pulled_agrees sources offsets delays (get_or first u 0) n j X (get_or first (u + 1) 0) (at n X j u) Y
+            (λ q f g e. same (j - get_or offsets q 0) (get_or sources q 0) (sources_written i k j u q (omega arith) w (f, g) e))
             (old.times j u w))
 
         each : (C : ℕ → ℕ → Type 0) → ((j u : ℕ) → Written order n i k j u → C j u) → C i v → (j u : ℕ) → Written order n i (k + 1) j u → C j u
@@ -263,24 +263,24 @@ module _ (sources offsets delays first order : List ℕ) (n : ℕ) (plan : Plan 
             (λ d. p j u (inr (e.0, (e.1.0, omega (arith, e.1.1), e.1.2)))))
             w
 
-        pub done-step : Done sources offsets delays first order n i (k + 1) (set X (i * n + v) best)
-        done-step =
+        pub done_step : Done sources offsets delays first order n i (k + 1) (set X (i * n + v) best)
+        done_step =
             record {
-              times = each (λ j u. Pulled sources offsets delays (get_or first u 0) (get_or first (u + 1) 0) n j Y (at n Y j u)) times-same times-here;
-              low = each (λ j u. at n Y j u ≤ (i * n + (k + 1)) * 1000000) (λ j u w. omega (arith, same j u w, old.low j u w)) (omega (arith, here, best-low));
+              times = each (λ j u. Pulled sources offsets delays (get_or first u 0) (get_or first (u + 1) 0) n j Y (at n Y j u)) times_same times_here;
+              low = each (λ j u. at n Y j u ≤ (i * n + (k + 1)) * 1000000) (λ j u w. omega (arith, same j u w, old.low j u w)) (omega (arith, here, best_low));
             }
 
         pub going_step : (X₀ : List ℕ) → Going sources offsets delays first order n i k X₀ X → Going sources offsets delays first order n i (k + 1) X₀ (set X (i * n + v) best)
         going_step X₀ going =
             record {
-              done = done-step;
+              done = done_step;
               size = simp length-set going.size;
               rest = λ p h. get_or-set_other X (i * n + v) p best 0 (λ e. omega (arith, v_low)) ∙ going.rest p h;
             }
 
   -- a row is made when all places of the order are done
-  pub row-end : (i : ℕ) (X₀ X : List ℕ) → Going sources offsets delays first order n i n X₀ X → Row sources offsets delays first order n i X₀ X
-  row-end i X₀ X going =
+  pub row_end : (i : ℕ) (X₀ X : List ℕ) → Going sources offsets delays first order n i n X₀ X → Row sources offsets delays first order n i X₀ X
+  row_end i X₀ X going =
       record {
         done = record { times = λ j u w. going.done.times j u (earlier j u w); low = λ j u w. omega (arith, going.done.low j u (earlier j u w)) };
         size = going.size;
@@ -299,8 +299,8 @@ module _ (sources offsets delays first order : List ℕ) (n : ℕ) where
   pub going_start : (i : ℕ) (X : List ℕ) → Done sources offsets delays first order n i 0 X → Going sources offsets delays first order n i 0 X X
   going_start i X d = record { done = d; size = refl; rest = λ p h. refl }
 
-  pub begun-start : (X : List ℕ) → Begun sources offsets delays first order n 0 X X
-  begun-start X =
+  pub begun_start : (X : List ℕ) → Begun sources offsets delays first order n 0 X X
+  begun_start X =
       record {
         done = record { times = λ j u w. absurd (none j u w); low = λ j u w. absurd (none j u w) };
         size = refl;
@@ -310,9 +310,9 @@ module _ (sources offsets delays first order : List ℕ) (n : ℕ) where
       none : (j u : ℕ) → Written order n 0 0 j u → ⊥
       none j u w = ⊎_elim (λ e. omega (arith, e.0)) (λ e. omega (arith, e.1.1)) w
 
-  pub begun-step : (i : ℕ) (X₀ X Y : List ℕ) → Begun sources offsets delays first order n i X₀ X → Row sources offsets delays first order n i X Y
+  pub begun_step : (i : ℕ) (X₀ X Y : List ℕ) → Begun sources offsets delays first order n i X₀ X → Row sources offsets delays first order n i X Y
       → Begun sources offsets delays first order n (i + 1) X₀ Y
-  begun-step i X₀ X Y old row =
+  begun_step i X₀ X Y old row =
       record { done = row.done; size = row.size ∙ old.size; rest = λ p h. row.rest p (omega arith) ∙ old.rest p (omega arith) }
 
   pub rows_end : (count : ℕ) (X₀ X : List ℕ) → Begun sources offsets delays first order n count X₀ X → Rows sources offsets delays first order n count X₀ X

@@ -2,7 +2,7 @@
 ghost use Rattle.std.specs.Prelude.{◌*◌, ◌≤◌, length};
 ghost use Rattle.model.specs.Loop.{Live};
 ghost use Rattle.model.specs.Times.{Timed};
-ghost use Rattle.columns.specs.Columns.{shape, delayAt, Limits, Short};
+ghost use Rattle.columns.specs.Columns.{shape, delay_at, Limits, Short};
 
 // The times of the first `count` occurrences of n transitions, where every loop turns.
 pub fn written(
@@ -19,7 +19,7 @@ pub fn written(
     requires short { Short delay.now m }
     requires live { Live (shape source.now target.now offset.now m) }
     requires count_bound { (count ≤ 1024) × (count * n ≤ length times.old) }
-    ensures { Timed (shape source.now target.now offset.now m) (delayAt delay.now) count n times.old times.new }
+    ensures { Timed (shape source.now target.now offset.now m) (delay_at delay.now) count n times.old times.new }
 {
     let mut rules = [0u16; 2048];
     let mut first = [0u16; 257];

@@ -1,7 +1,7 @@
 // A table of transitions and rules, its limits, and the check of a table handed in.
 ghost use Rattle.std.specs.Prelude.{◌≡◌, ◌+◌, ◌*◌, ◌<◌};
-ghost use Rattle.table.specs.Limits.{minN, maxN, maxM, maxOffset, maxDelay, minOccurrences, maxOccurrences};
-ghost use Rattle.table.specs.Form.{emptyTable};
+ghost use Rattle.table.specs.Limits.{min_n, max_n, max_m, max_offset, max_delay, min_occurrences, max_occurrences};
+ghost use Rattle.table.specs.Form.{empty_table};
 ghost use Rattle.table.specs.Fields.{FirstIn, Judged};
 
 // A delay is known, with its value, or unknown. Unknown stands first: then the value that the checker takes for a missing rule is the unused rule.
@@ -44,7 +44,7 @@ impl Table {
 
     // No transition and no rule, every place in its unused form.
     pub fn empty() -> Table
-        ensures { result ≡ emptyTable }
+        ensures { result ≡ empty_table }
     {
         let unused = Rule {
             source: 0,
@@ -62,9 +62,9 @@ impl Table {
 
 // Does nothing: its promise ties each constant of the table to the name that the definitions quote.
 fn limits()
-    ensures* fact { do ⌜ ((← (⟦Table::MIN_N⟧).entry) ≡ minN) × ((← (⟦Table::MAX_N⟧).entry) ≡ maxN) × ((← (⟦Table::MAX_M⟧).entry) ≡ maxM) ⌝ }
-    ensures* fact_2 { do ⌜ ((← (⟦Table::MAX_OFFSET⟧).entry) ≡ maxOffset) × ((← (⟦Table::MAX_DELAY⟧).entry) ≡ maxDelay) ⌝ }
-    ensures* fact_3 { do ⌜ ((← (⟦Table::MIN_OCCURRENCES⟧).entry) ≡ minOccurrences) × ((← (⟦Table::MAX_OCCURRENCES⟧).entry) ≡ maxOccurrences) ⌝ }
+    ensures* fact { do ⌜ ((← (⟦Table::MIN_N⟧).entry) ≡ min_n) × ((← (⟦Table::MAX_N⟧).entry) ≡ max_n) × ((← (⟦Table::MAX_M⟧).entry) ≡ max_m) ⌝ }
+    ensures* fact_2 { do ⌜ ((← (⟦Table::MAX_OFFSET⟧).entry) ≡ max_offset) × ((← (⟦Table::MAX_DELAY⟧).entry) ≡ max_delay) ⌝ }
+    ensures* fact_3 { do ⌜ ((← (⟦Table::MIN_OCCURRENCES⟧).entry) ≡ min_occurrences) × ((← (⟦Table::MAX_OCCURRENCES⟧).entry) ≡ max_occurrences) ⌝ }
 {}
 
 // What the check of a table hands back: 0 and 0, or 3 and the first field outside its limits, counted in file order.

@@ -1,7 +1,7 @@
 // The text that the program `report` prints for the bytes of a rule file.
 mod lines;
 
-ghost use Rattle.words.specs.Lines.{refusedLine};
+ghost use Rattle.words.specs.Lines.{refused_line_of};
 ghost use Rattle.words.specs.Held.{Holds};
 ghost use Rattle.text.specs.Text.{ReportOf};
 ghost use Rattle.text.specs.Made.{TableReport};
@@ -10,7 +10,7 @@ use table::Table;
 use words::Text;
 
 fn refused(refusal: u32, place: usize) -> Text
-    ensures { Holds result (refusedLine refusal place) }
+    ensures { Holds result (refused_line_of refusal place) }
 {
     let mut bytes = [0u8; Text::ROOM];
     let len = words::refused_line(refusal, place, &mut bytes, 0);

@@ -2,8 +2,8 @@
 ghost use Rattle.std.specs.Prelude.{◌∷◌, ◌+◌, ◌*◌, ◌≤◌, length};
 ghost use Rattle.words.specs.Decimal.{ascii, numbers};
 ghost use Rattle.words.specs.Puts.{Puts};
-ghost use Rattle.text.specs.Text.{periodLine, listLine, answerText};
-ghost use Rattle.text.specs.Made.{endsOf, answer_of};
+ghost use Rattle.text.specs.Text.{period_line_of, list_line, answer_text};
+ghost use Rattle.text.specs.Made.{ends_of, answer_of};
 
 use period::Analysis;
 
@@ -34,7 +34,7 @@ fn rules(xs: &[u32], out: &mut [u8], at: usize) -> usize
 }
 
 fn period_line(a: Analysis, out: &mut [u8], at: usize) -> usize
-    ensures { Puts (periodLine (endsOf a)) out.old at out.new result × (result ≤ at + 99) }
+    ensures { Puts (period_line_of (ends_of a)) out.old at out.new result × (result ≤ at + 99) }
 {
     let low = a.low;
     let high = a.high;
@@ -45,7 +45,7 @@ fn period_line(a: Analysis, out: &mut [u8], at: usize) -> usize
 }
 
 fn loop_line(name: &[u8], xs: &[u32], out: &mut [u8], at: usize) -> usize
-    ensures { Puts (listLine name.now xs.now) out.old at out.new result × (result ≤ at + length name.now + 21 * length xs.now + 1) }
+    ensures { Puts (list_line name.now xs.now) out.old at out.new result × (result ≤ at + length name.now + 21 * length xs.now + 1) }
 {
     let a = words::word(name, out, at);
     let b = rules(xs, out, a);
@@ -53,7 +53,7 @@ fn loop_line(name: &[u8], xs: &[u32], out: &mut [u8], at: usize) -> usize
 }
 
 fn schedule_line(q: u64, x: &[u64], out: &mut [u8], at: usize) -> usize
-    ensures { Puts (listLine (ascii "schedule") (q ∷ x.now)) out.old at out.new result × (result ≤ at + 30 + 21 * length x.now) }
+    ensures { Puts (list_line (ascii "schedule") (q ∷ x.now)) out.old at out.new result × (result ≤ at + 30 + 21 * length x.now) }
 {
     let a = words::word(b"schedule", out, at);
     let b = words::number(q, out, a);
@@ -62,7 +62,7 @@ fn schedule_line(q: u64, x: &[u64], out: &mut [u8], at: usize) -> usize
 }
 
 pub fn answer(a: Analysis, low: &[u32], high: &[u32], x: &[u64], out: &mut [u8], at: usize) -> usize
-    ensures { Puts (answerText (answer_of a low.now high.now x.now)) out.old at out.new result × (result ≤ at + 138 + 21 * length low.now + 21 * length high.now + 21 * length x.now) }
+    ensures { Puts (answer_text (answer_of a low.now high.now x.now)) out.old at out.new result × (result ≤ at + 138 + 21 * length low.now + 21 * length high.now + 21 * length x.now) }
 {
     let end = a.high;
     let b = period_line(a, out, at);

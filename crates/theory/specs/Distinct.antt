@@ -1,7 +1,7 @@
 -- Lists of pairwise different numbers, and the pigeonhole principle.
 --
 --   AllBelow n xs   == every element of xs is below n
---   distinct-front, distinct-last, distinct-swap   parts of such a list
+--   distinct_front, distinct_last, distinct_swap   parts of such a list
 --   pigeonhole      a list of different numbers below n has at most n elements
 use Rattle.std.specs.Prelude.{◌≡◌, refl, ◌≢◌, List, [], ◌∷◌, ◌++◌, ℕ, zero, suc, ◌+◌, ◌≤◌, ◌<◌, length}
 use Rattle.std.proofs.Common.{sym, append-nil, arith}
@@ -15,39 +15,39 @@ AllBelow n [] = Unit {0}
 AllBelow n (x ∷ xs) = (x < n) × AllBelow n xs
 
 -- the front of such a list is such a list
-pub notIn-front : (v : ℕ) (xs ys : List ℕ) → NotIn v (xs ++ ys) → NotIn v xs
-notIn-front v [] ys h = tt
-notIn-front v (x ∷ xs) ys h = (h.0, notIn-front v xs ys h.1)
+pub not_in_front : (v : ℕ) (xs ys : List ℕ) → NotIn v (xs ++ ys) → NotIn v xs
+not_in_front v [] ys h = tt
+not_in_front v (x ∷ xs) ys h = (h.0, not_in_front v xs ys h.1)
 
-pub distinct-front : (xs ys : List ℕ) → Distinct (xs ++ ys) → Distinct xs
-distinct-front [] ys h = tt
-distinct-front (x ∷ xs) ys h = (notIn-front x xs ys h.0, distinct-front xs ys h.1)
+pub distinct_front : (xs ys : List ℕ) → Distinct (xs ++ ys) → Distinct xs
+distinct_front [] ys h = tt
+distinct_front (x ∷ xs) ys h = (not_in_front x xs ys h.0, distinct_front xs ys h.1)
 
 -- the last element is another one
-pub notIn-last : (v w : ℕ) (xs : List ℕ) → NotIn v (xs ++ (w ∷ [])) → w ≢ v
-notIn-last v w [] h = h.0
-notIn-last v w (x ∷ xs) h = notIn-last v w xs h.1
+pub not_in_last : (v w : ℕ) (xs : List ℕ) → NotIn v (xs ++ (w ∷ [])) → w ≢ v
+not_in_last v w [] h = h.0
+not_in_last v w (x ∷ xs) h = not_in_last v w xs h.1
 
-pub distinct-last : (w : ℕ) (xs : List ℕ) → Distinct (xs ++ (w ∷ [])) → NotIn w xs
-distinct-last w [] h = tt
-distinct-last w (x ∷ xs) h = (λ e. notIn-last x w xs h.0 (sym e), distinct-last w xs h.1)
+pub distinct_last : (w : ℕ) (xs : List ℕ) → Distinct (xs ++ (w ∷ [])) → NotIn w xs
+distinct_last w [] h = tt
+distinct_last w (x ∷ xs) h = (λ e. not_in_last x w xs h.0 (sym e), distinct_last w xs h.1)
 
-notIn-insert : (v x : ℕ) (ys xs : List ℕ) → x ≢ v → NotIn v (ys ++ xs) → NotIn v (ys ++ (x ∷ xs))
-notIn-insert v x [] xs d h = (d, h)
-notIn-insert v x (y ∷ ys) xs d h = (h.0, notIn-insert v x ys xs d h.1)
+not_in_insert : (v x : ℕ) (ys xs : List ℕ) → x ≢ v → NotIn v (ys ++ xs) → NotIn v (ys ++ (x ∷ xs))
+not_in_insert v x [] xs d h = (d, h)
+not_in_insert v x (y ∷ ys) xs d h = (h.0, not_in_insert v x ys xs d h.1)
 
-distinct-insert : (x : ℕ) (ys xs : List ℕ) → NotIn x (ys ++ xs) → Distinct (ys ++ xs) → Distinct (ys ++ (x ∷ xs))
-distinct-insert x [] xs d h = (d, h)
-distinct-insert x (y ∷ ys) xs d h = (notIn-insert y x ys xs (λ e. d.0 (sym e)) h.0, distinct-insert x ys xs d.1 h.1)
+distinct_insert : (x : ℕ) (ys xs : List ℕ) → NotIn x (ys ++ xs) → Distinct (ys ++ xs) → Distinct (ys ++ (x ∷ xs))
+distinct_insert x [] xs d h = (d, h)
+distinct_insert x (y ∷ ys) xs d h = (not_in_insert y x ys xs (λ e. d.0 (sym e)) h.0, distinct_insert x ys xs d.1 h.1)
 
 -- the parts of such a list may change places
-notIn-swap : (v : ℕ) (xs ys : List ℕ) → NotIn v (xs ++ ys) → NotIn v (ys ++ xs)
-notIn-swap v [] ys h = rw (append-nil ys) h
-notIn-swap v (x ∷ xs) ys h = notIn-insert v x ys xs h.0 (notIn-swap v xs ys h.1)
+not_in_swap : (v : ℕ) (xs ys : List ℕ) → NotIn v (xs ++ ys) → NotIn v (ys ++ xs)
+not_in_swap v [] ys h = rw (append-nil ys) h
+not_in_swap v (x ∷ xs) ys h = not_in_insert v x ys xs h.0 (not_in_swap v xs ys h.1)
 
-pub distinct-swap : (xs ys : List ℕ) → Distinct (xs ++ ys) → Distinct (ys ++ xs)
-distinct-swap [] ys h = rw (append-nil ys) h
-distinct-swap (x ∷ xs) ys h = distinct-insert x ys xs (notIn-swap x xs ys h.0) (distinct-swap xs ys h.1)
+pub distinct_swap : (xs ys : List ℕ) → Distinct (xs ++ ys) → Distinct (ys ++ xs)
+distinct_swap [] ys h = rw (append-nil ys) h
+distinct_swap (x ∷ xs) ys h = distinct_insert x ys xs (not_in_swap x xs ys h.0) (distinct_swap xs ys h.1)
 
 -- 1 where the numbers are equal, else 0
 hit : ℕ → ℕ → ℕ
@@ -71,37 +71,37 @@ abbrev counts : ℕ → List ℕ → ℕ
 counts zero xs = 0
 counts (suc n) xs = count n xs + counts n xs
 
-count-absent : (v : ℕ) (xs : List ℕ) → NotIn v xs → count v xs ≡ 0
-count-absent v [] h = refl
-count-absent v (x ∷ xs) h = omega (arith, hit_other v x h.0, count-absent v xs h.1)
+count_absent : (v : ℕ) (xs : List ℕ) → NotIn v xs → count v xs ≡ 0
+count_absent v [] h = refl
+count_absent v (x ∷ xs) h = omega (arith, hit_other v x h.0, count_absent v xs h.1)
 
-count-distinct : (v : ℕ) (xs : List ℕ) → Distinct xs → count v xs ≤ 1
-count-distinct v [] h = omega arith
-count-distinct v (x ∷ xs) h =
+count_distinct : (v : ℕ) (xs : List ℕ) → Distinct xs → count v xs ≤ 1
+count_distinct v [] h = omega arith
+count_distinct v (x ∷ xs) h =
     by_cases (ℕ_discrete x v)
-    (λ e. omega (arith, hit_same v x e, count-absent v xs (rw e at h.0)))
-    (λ d. omega (arith, hit_other v x d, count-distinct v xs h.1))
+    (λ e. omega (arith, hit_same v x e, count_absent v xs (rw e at h.0)))
+    (λ d. omega (arith, hit_other v x d, count_distinct v xs h.1))
 
-counts-distinct : (n : ℕ) (xs : List ℕ) → Distinct xs → counts n xs ≤ n
-counts-distinct zero xs h = omega arith
-counts-distinct (suc n) xs h = omega (arith, count-distinct n xs h, counts-distinct n xs h)
+counts_distinct : (n : ℕ) (xs : List ℕ) → Distinct xs → counts n xs ≤ n
+counts_distinct zero xs h = omega arith
+counts_distinct (suc n) xs h = omega (arith, count_distinct n xs h, counts_distinct n xs h)
 
 -- a number that is not below n adds nothing, and one below n adds one
-counts-above : (n x : ℕ) (xs : List ℕ) → n ≤ x → counts n (x ∷ xs) ≡ counts n xs
-counts-above zero x xs h = refl
-counts-above (suc n) x xs h = omega (arith, hit_other n x (omega arith), counts-above n x xs (omega arith))
+counts_above : (n x : ℕ) (xs : List ℕ) → n ≤ x → counts n (x ∷ xs) ≡ counts n xs
+counts_above zero x xs h = refl
+counts_above (suc n) x xs h = omega (arith, hit_other n x (omega arith), counts_above n x xs (omega arith))
 
-counts-below : (n x : ℕ) (xs : List ℕ) → x < n → counts n (x ∷ xs) ≡ suc (counts n xs)
-counts-below zero x xs h = absurd (omega arith)
-counts-below (suc n) x xs h =
+counts_below : (n x : ℕ) (xs : List ℕ) → x < n → counts n (x ∷ xs) ≡ suc (counts n xs)
+counts_below zero x xs h = absurd (omega arith)
+counts_below (suc n) x xs h =
     by_cases (ℕ_discrete x n)
-    (λ e. omega (arith, hit_same n x e, counts-above n x xs (omega arith)))
-    (λ d. omega (arith, hit_other n x d, counts-below n x xs (omega arith)))
+    (λ e. omega (arith, hit_same n x e, counts_above n x xs (omega arith)))
+    (λ d. omega (arith, hit_other n x d, counts_below n x xs (omega arith)))
 
 counts_all : (n : ℕ) (xs : List ℕ) → AllBelow n xs → length xs ≤ counts n xs
 counts_all n [] h = omega arith
-counts_all n (x ∷ xs) h = omega (arith, counts-below n x xs h.0, counts_all n xs h.1)
+counts_all n (x ∷ xs) h = omega (arith, counts_below n x xs h.0, counts_all n xs h.1)
 
 -- THE PIGEONHOLE PRINCIPLE. Count how often each number below n stands in the list: at most once; and every element is counted.
 pub pigeonhole : (n : ℕ) (xs : List ℕ) → Distinct xs → AllBelow n xs → length xs ≤ n
-pigeonhole n xs d b = omega (arith, counts-distinct n xs d, counts_all n xs b)
+pigeonhole n xs d b = omega (arith, counts_distinct n xs d, counts_all n xs b)

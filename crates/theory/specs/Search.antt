@@ -2,8 +2,8 @@
 --
 --   Fails A m         == a number below m at which A fails
 --   First A m         == the first number below m at which A holds
---   all-or-fails      A holds of all, or fails of one
---   none-or-first     A holds of none, or there is a first
+--   all_or_fails      A holds of all, or fails of one
+--   none_or_first     A holds of none, or there is a first
 use Rattle.std.specs.Prelude.{◌⊎◌, ℕ, zero, suc, ◌<◌}
 use Rattle.std.proofs.Common.{inl, inr, ⊎_elim, arith}
 use Rattle.std.proofs.Math.Logic.{by_cases}
@@ -12,35 +12,35 @@ use Rattle.std.proofs.Math.Decide.{ℕ_discrete}
 -- a number below m at which A fails
 pub record Fails (A : ℕ → Type 0) (m : ℕ) : Type 0 where
   pub at : ℕ
-  pub at-below : at < m
+  pub at_below : at < m
   pub fails : ¬ (A at)
 
 -- the first number below m at which A holds
 pub record First (A : ℕ → Type 0) (m : ℕ) : Type 0 where
   pub at : ℕ
-  pub at-below : at < m
+  pub at_below : at < m
   pub holds : A at
   pub before : (i : ℕ) → i < at → ¬ (A i)
 
 module _ (A : ℕ → Type 0) (dec : (i : ℕ) → Dec (A i)) where
-  pub all-or-fails : (m : ℕ) → ((i : ℕ) → i < m → A i) ⊎ Fails A m
-  all-or-fails zero = inl (λ i h. absurd (omega arith))
-  all-or-fails (suc m) =
+  pub all_or_fails : (m : ℕ) → ((i : ℕ) → i < m → A i) ⊎ Fails A m
+  all_or_fails zero = inl (λ i h. absurd (omega arith))
+  all_or_fails (suc m) =
       ⊎_elim
-      (λ all. by_cases (dec m) (λ a. inl (λ i h. last all a i h)) (λ n. inr (record { at = m; at-below = omega arith; fails = n })))
-      (λ f. inr (record { at = f.at; at-below = omega (arith, f.at-below); fails = f.fails }))
-      (all-or-fails m)
+      (λ all. by_cases (dec m) (λ a. inl (λ i h. last all a i h)) (λ n. inr (record { at = m; at_below = omega arith; fails = n })))
+      (λ f. inr (record { at = f.at; at_below = omega (arith, f.at_below); fails = f.fails }))
+      (all_or_fails m)
     where
       last : ((i : ℕ) → i < m → A i) → A m → (i : ℕ) → i < suc m → A i
       last all a i h = by_cases (ℕ_discrete i m) (λ e. rw e a) (λ d. all i (omega arith))
 
-  pub none-or-first : (m : ℕ) → ((i : ℕ) → i < m → ¬ (A i)) ⊎ First A m
-  none-or-first zero = inl (λ i h. absurd (omega arith))
-  none-or-first (suc m) =
+  pub none_or_first : (m : ℕ) → ((i : ℕ) → i < m → ¬ (A i)) ⊎ First A m
+  none_or_first zero = inl (λ i h. absurd (omega arith))
+  none_or_first (suc m) =
       ⊎_elim
-      (λ none. by_cases (dec m) (λ a. inr (record { at = m; at-below = omega arith; holds = a; before = none })) (λ n. inl (last none n)))
-      (λ f. inr (record { at = f.at; at-below = omega (arith, f.at-below); holds = f.holds; before = f.before }))
-      (none-or-first m)
+      (λ none. by_cases (dec m) (λ a. inr (record { at = m; at_below = omega arith; holds = a; before = none })) (λ n. inl (last none n)))
+      (λ f. inr (record { at = f.at; at_below = omega (arith, f.at_below); holds = f.holds; before = f.before }))
+      (none_or_first m)
     where
       last : ((i : ℕ) → i < m → ¬ (A i)) → ¬ (A m) → (i : ℕ) → i < suc m → ¬ (A i)
       last none n i h = by_cases (ℕ_discrete i m) (λ e. rw e n) (λ d. none i (omega arith))

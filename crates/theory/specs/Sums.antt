@@ -1,9 +1,9 @@
 -- Sums over sequences of rules.
 --
---   delays-append, offsets-append    sums over two sequences joined
---   delays-more                      longer delays sum to more
---   delays-most, offsets-most        a sum is at most the length times the largest term
---   zero-all, all-zero               an offset sum is 0 just where every offset is
+--   delays_append, offsets_append    sums over two sequences joined
+--   delays_more                      longer delays sum to more
+--   delays_most, offsets_most        a sum is at most the length times the largest term
+--   zero_all, all_zero               an offset sum is 0 just where every offset is
 use Rattle.std.specs.Prelude.{◌≡◌, refl, List, [], ◌∷◌, ◌++◌, ℕ, ◌+◌, ◌*◌, ◌≤◌, ◌<◌, length}
 use Rattle.std.proofs.Common.{arith}
 use Rattle.model.specs.Shape.{Shape}
@@ -23,32 +23,32 @@ pub all_join : (A : ℕ → Type 0) (rs ss : List ℕ) → All A rs → All A ss
 all_join A [] ss a b = b
 all_join A (r ∷ rs) ss a b = (a.0, all_join A rs ss a.1 b)
 
-pub delays-append : (D : ℕ → ℕ) (rs ss : List ℕ) → delays D (rs ++ ss) ≡ delays D rs + delays D ss
-delays-append D [] ss = omega arith
-delays-append D (r ∷ rs) ss = omega (arith, delays-append D rs ss)
+pub delays_append : (D : ℕ → ℕ) (rs ss : List ℕ) → delays D (rs ++ ss) ≡ delays D rs + delays D ss
+delays_append D [] ss = omega arith
+delays_append D (r ∷ rs) ss = omega (arith, delays_append D rs ss)
 
 module _ (S : Shape) where
-  pub offsets-append : (rs ss : List ℕ) → offsets S (rs ++ ss) ≡ offsets S rs + offsets S ss
-  offsets-append [] ss = omega arith
-  offsets-append (r ∷ rs) ss = omega (arith, offsets-append rs ss)
+  pub offsets_append : (rs ss : List ℕ) → offsets S (rs ++ ss) ≡ offsets S rs + offsets S ss
+  offsets_append [] ss = omega arith
+  offsets_append (r ∷ rs) ss = omega (arith, offsets_append rs ss)
 
   -- delays are compared at the rules of the walk only
-  pub delays-more : (D E : ℕ → ℕ) → ((r : ℕ) → r < S.rules → D r ≤ E r) → (u w : ℕ) (rs : List ℕ) → Walk S u w rs → delays D rs ≤ delays E rs
-  delays-more D E more u w [] h = omega arith
-  delays-more D E more u w (r ∷ rs) h = omega (arith, more r h.0, delays-more D E more (S.target r) w rs h.2)
+  pub delays_more : (D E : ℕ → ℕ) → ((r : ℕ) → r < S.rules → D r ≤ E r) → (u w : ℕ) (rs : List ℕ) → Walk S u w rs → delays D rs ≤ delays E rs
+  delays_more D E more u w [] h = omega arith
+  delays_more D E more u w (r ∷ rs) h = omega (arith, more r h.0, delays_more D E more (S.target r) w rs h.2)
 
-  pub delays-most : (D : ℕ → ℕ) (C : ℕ) → ((r : ℕ) → r < S.rules → D r ≤ C) → (u w : ℕ) (rs : List ℕ) → Walk S u w rs → delays D rs ≤ length rs * C
-  delays-most D C m u w [] h = omega arith
-  delays-most D C m u w (r ∷ rs) h = omega (arith, m r h.0, delays-most D C m (S.target r) w rs h.2)
+  pub delays_most : (D : ℕ → ℕ) (C : ℕ) → ((r : ℕ) → r < S.rules → D r ≤ C) → (u w : ℕ) (rs : List ℕ) → Walk S u w rs → delays D rs ≤ length rs * C
+  delays_most D C m u w [] h = omega arith
+  delays_most D C m u w (r ∷ rs) h = omega (arith, m r h.0, delays_most D C m (S.target r) w rs h.2)
 
-  pub offsets-most : (E : ℕ) → ((r : ℕ) → r < S.rules → S.offset r ≤ E) → (u w : ℕ) (rs : List ℕ) → Walk S u w rs → offsets S rs ≤ length rs * E
-  offsets-most E m u w [] h = omega arith
-  offsets-most E m u w (r ∷ rs) h = omega (arith, m r h.0, offsets-most E m (S.target r) w rs h.2)
+  pub offsets_most : (E : ℕ) → ((r : ℕ) → r < S.rules → S.offset r ≤ E) → (u w : ℕ) (rs : List ℕ) → Walk S u w rs → offsets S rs ≤ length rs * E
+  offsets_most E m u w [] h = omega arith
+  offsets_most E m u w (r ∷ rs) h = omega (arith, m r h.0, offsets_most E m (S.target r) w rs h.2)
 
-  pub zero-all : (rs : List ℕ) → offsets S rs ≡ 0 → All (λ r. S.offset r ≡ 0) rs
-  zero-all [] e = tt
-  zero-all (r ∷ rs) e = (omega (arith, e), zero-all rs (omega (arith, e)))
+  pub zero_all : (rs : List ℕ) → offsets S rs ≡ 0 → All (λ r. S.offset r ≡ 0) rs
+  zero_all [] e = tt
+  zero_all (r ∷ rs) e = (omega (arith, e), zero_all rs (omega (arith, e)))
 
-  pub all-zero : (rs : List ℕ) → All (λ r. S.offset r ≡ 0) rs → offsets S rs ≡ 0
-  all-zero [] a = refl
-  all-zero (r ∷ rs) a = omega (arith, a.0, all-zero rs a.1)
+  pub all_zero : (rs : List ℕ) → All (λ r. S.offset r ≡ 0) rs → offsets S rs ≡ 0
+  all_zero [] a = refl
+  all_zero (r ∷ rs) a = omega (arith, a.0, all_zero rs a.1)

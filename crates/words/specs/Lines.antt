@@ -2,10 +2,10 @@
 --
 --   newline             what ends a line
 --   ratio p q           `P/Q`
---   refusedWords f p    `refused F at P`
---   refusedLine f p     the same as a line
---   exactLine p q       `period P/Q exact`
---   rangeLine p q p' q' `period from P/Q to P/Q`
+--   refused_words_of f p    `refused F at P`
+--   refused_line_of f p     the same as a line
+--   exact_line_of p q       `period P/Q exact`
+--   range_line_of p q p' q' `period from P/Q to P/Q`
 use Rattle.std.specs.Prelude.{List, ◌++◌, ℕ}
 use Rattle.words.specs.Decimal.{ascii, decimal}
 
@@ -15,14 +15,14 @@ newline = ascii "\n"
 abbrev pub ratio : ℕ → ℕ → List ℕ
 ratio p q = decimal p ++ (ascii "/" ++ decimal q)
 
-abbrev pub refusedWords : ℕ → ℕ → List ℕ
-refusedWords f p = ascii "refused " ++ (decimal f ++ (ascii " at " ++ decimal p))
+abbrev pub refused_words_of : ℕ → ℕ → List ℕ
+refused_words_of f p = ascii "refused " ++ (decimal f ++ (ascii " at " ++ decimal p))
 
-abbrev pub refusedLine : ℕ → ℕ → List ℕ
-refusedLine f p = refusedWords f p ++ newline
+abbrev pub refused_line_of : ℕ → ℕ → List ℕ
+refused_line_of f p = refused_words_of f p ++ newline
 
-abbrev pub exactLine : ℕ → ℕ → List ℕ
-exactLine p q = ascii "period " ++ (ratio p q ++ (ascii " exact" ++ newline))
+abbrev pub exact_line_of : ℕ → ℕ → List ℕ
+exact_line_of p q = ascii "period " ++ (ratio p q ++ (ascii " exact" ++ newline))
 
-abbrev pub rangeLine : ℕ → ℕ → ℕ → ℕ → List ℕ
-rangeLine p q p' q' = ascii "period from " ++ (ratio p q ++ (ascii " to " ++ (ratio p' q' ++ newline)))
+abbrev pub range_line_of : ℕ → ℕ → ℕ → ℕ → List ℕ
+range_line_of p q p' q' = ascii "period from " ++ (ratio p q ++ (ascii " to " ++ (ratio p' q' ++ newline)))

@@ -4,7 +4,7 @@ ghost use Rattle.std.specs.Prelude.{◌≡◌, [], ◌∷◌, ◌+◌, ◌≤◌
 ghost use Rattle.words.specs.Decimal.{numbers};
 ghost use Rattle.words.specs.Decimal.{digit as Decimal·digit, decimal as Decimal·decimal};
 ghost use Rattle.words.specs.Puts.{Puts};
-ghost use Rattle.words.specs.Lines.{refusedWords, refusedLine, exactLine, rangeLine};
+ghost use Rattle.words.specs.Lines.{refused_words_of, refused_line_of, exact_line_of, range_line_of};
 ghost use Rattle.words.specs.Lines.{ratio as Lines·ratio};
 
 // A text: its length and its bytes, zeros after them. No text takes all the room.
@@ -95,7 +95,7 @@ pub fn wide_usize(x: usize) -> u64
 
 // A refusal and its place.
 pub fn refused_words(refusal: u32, place: usize, out: &mut [u8], at: usize) -> usize
-    ensures { Puts (refusedWords refusal place) out.old at out.new result × (result ≤ at + 52) }
+    ensures { Puts (refused_words_of refusal place) out.old at out.new result × (result ≤ at + 52) }
 {
     let f = wide(refusal);
     let p = wide_usize(place);
@@ -106,7 +106,7 @@ pub fn refused_words(refusal: u32, place: usize, out: &mut [u8], at: usize) -> u
 }
 
 pub fn refused_line(refusal: u32, place: usize, out: &mut [u8], at: usize) -> usize
-    ensures { Puts (refusedLine refusal place) out.old at out.new result × (result ≤ at + 53) }
+    ensures { Puts (refused_line_of refusal place) out.old at out.new result × (result ≤ at + 53) }
 {
     let next = refused_words(refusal, place, out, at);
     byte(b'\n', out, next)
@@ -114,7 +114,7 @@ pub fn refused_line(refusal: u32, place: usize, out: &mut [u8], at: usize) -> us
 
 // A period that is exact.
 pub fn exact_line(p: u64, q: u64, out: &mut [u8], at: usize) -> usize
-    ensures { Puts (exactLine p q) out.old at out.new result × (result ≤ at + 99) }
+    ensures { Puts (exact_line_of p q) out.old at out.new result × (result ≤ at + 99) }
 {
     let a = word(b"period ", out, at);
     let b = ratio(p, q, out, a);
@@ -124,7 +124,7 @@ pub fn exact_line(p: u64, q: u64, out: &mut [u8], at: usize) -> usize
 
 // A period between two ends.
 pub fn range_line(lowp: u64, lowq: u64, highp: u64, highq: u64, out: &mut [u8], at: usize) -> usize
-    ensures { Puts (rangeLine lowp lowq highp highq) out.old at out.new result × (result ≤ at + 99) }
+    ensures { Puts (range_line_of lowp lowq highp highq) out.old at out.new result × (result ≤ at + 99) }
 {
     let a = word(b"period from ", out, at);
     let b = ratio(lowp, lowq, out, a);

@@ -5,11 +5,11 @@
 --   lines            the table
 --   worked           THE THEOREM
 use Rattle.std.specs.Prelude.{◌≡◌, refl, List, [], ◌∷◌, ℕ}
-use Rattle.sevens.specs.Sevens.{rawOf, followed, number_of, limited, cutPlace, marked, longPlace}
-use Rattle.rulefile.specs.File.{num_at, and_then, rulesFrom, read_of, refusedRead}
+use Rattle.sevens.specs.Sevens.{raw_of, followed, number_of, limited, cut_place_of, marked, long_place_of}
+use Rattle.rulefile.specs.File.{num_at, and_then, rules_from_of, read_of, refused_read}
 use Rattle.laps.specs.Lists.{Lap}
 use Rattle.laps.specs.Lists as laps
-use Rattle.laps.specs.Laps.{lap-1, lap-2, lap-3, lap-4, lap-5, lap-6, lap-7, lap-8, lap-9, line-1, line-2, line-3, line-4, line-5, line-6, line-7, line-8, line-9}
+use Rattle.laps.specs.Laps.{lap_1, lap_2, lap_3, lap_4, lap_5, lap_6, lap_7, lap_8, lap_9, line_1, line_2, line_3, line_4, line_5, line_6, line_7, line_8, line_9}
 
 pub record Refused : Type 0 where
   pub bytes : List ℕ
@@ -25,7 +25,7 @@ pub data Line : Type 0 where
 
 abbrev pub Right : Line → Type 0
 Right (lap l) = laps.Right l
-Right (refused f) = read_of f.bytes ≡ refusedRead f.refusal f.place
+Right (refused f) = read_of f.bytes ≡ refused_read f.refusal f.place
 
 abbrev pub AllRight : List Line → Type 0
 AllRight [] = Unit {0}
@@ -34,15 +34,15 @@ AllRight (l ∷ ls) = Right l × AllRight ls
 -- the laps stand in full in the crate `laps`
 abbrev pub lines : List Line
 lines =
-    lap lap-1
-    ∷ lap lap-2
-    ∷ lap lap-3
-    ∷ lap lap-4
-    ∷ lap lap-5
-    ∷ lap lap-6
-    ∷ lap lap-7
-    ∷ lap lap-8
-    ∷ lap lap-9
+    lap lap_1
+    ∷ lap lap_2
+    ∷ lap lap_3
+    ∷ lap lap_4
+    ∷ lap lap_5
+    ∷ lap lap_6
+    ∷ lap lap_7
+    ∷ lap lap_8
+    ∷ lap lap_9
     ∷ refused (refuses (128 ∷ []) 1 1)
     ∷ refused (refuses (128 ∷ 0 ∷ []) 2 1)
     ∷ refused (refuses (128 ∷ 128 ∷ 128 ∷ []) 2 2)
@@ -53,35 +53,35 @@ lines =
     ∷ []
 
 -- P10, computed by the definition
-file-1 : Right (refused (refuses (128 ∷ []) 1 1))
-unfolding read_of num_at and_then rawOf followed number_of limited cutPlace marked longPlace
-file-1 = refl
+file_1 : Right (refused (refuses (128 ∷ []) 1 1))
+unfolding read_of num_at and_then raw_of followed number_of limited cut_place_of marked long_place_of
+file_1 = refl
 
-file-2 : Right (refused (refuses (128 ∷ 0 ∷ []) 2 1))
-unfolding read_of num_at and_then rawOf followed number_of limited cutPlace marked longPlace
-file-2 = refl
+file_2 : Right (refused (refuses (128 ∷ 0 ∷ []) 2 1))
+unfolding read_of num_at and_then raw_of followed number_of limited cut_place_of marked long_place_of
+file_2 = refl
 
-file-3 : Right (refused (refuses (128 ∷ 128 ∷ 128 ∷ []) 2 2))
-unfolding read_of num_at and_then rawOf followed number_of limited cutPlace marked longPlace
-file-3 = refl
+file_3 : Right (refused (refuses (128 ∷ 128 ∷ 128 ∷ []) 2 2))
+unfolding read_of num_at and_then raw_of followed number_of limited cut_place_of marked long_place_of
+file_3 = refl
 
-file-4 : Right (refused (refuses (0 ∷ []) 3 0))
-unfolding read_of num_at and_then rawOf followed number_of limited cutPlace marked longPlace
-file-4 = refl
+file_4 : Right (refused (refuses (0 ∷ []) 3 0))
+unfolding read_of num_at and_then raw_of followed number_of limited cut_place_of marked long_place_of
+file_4 = refl
 
-file-5 : Right (refused (refuses (1 ∷ 0 ∷ 0 ∷ []) 4 2))
-unfolding read_of num_at and_then rulesFrom rawOf followed number_of limited cutPlace marked longPlace
-file-5 = refl
+file_5 : Right (refused (refuses (1 ∷ 0 ∷ 0 ∷ []) 4 2))
+unfolding read_of num_at and_then rules_from_of raw_of followed number_of limited cut_place_of marked long_place_of
+file_5 = refl
 
 -- the third byte as the last, zero group, and a number cut that is not the first
-file-6 : Right (refused (refuses (128 ∷ 128 ∷ 0 ∷ []) 2 2))
-unfolding read_of num_at and_then rawOf followed number_of limited cutPlace marked longPlace
-file-6 = refl
+file_6 : Right (refused (refuses (128 ∷ 128 ∷ 0 ∷ []) 2 2))
+unfolding read_of num_at and_then raw_of followed number_of limited cut_place_of marked long_place_of
+file_6 = refl
 
-file-7 : Right (refused (refuses (1 ∷ 128 ∷ []) 1 2))
-unfolding read_of num_at and_then rawOf followed number_of limited cutPlace marked longPlace
-file-7 = refl
+file_7 : Right (refused (refuses (1 ∷ 128 ∷ []) 1 2))
+unfolding read_of num_at and_then raw_of followed number_of limited cut_place_of marked long_place_of
+file_7 = refl
 
 -- ALL THAT WAS WORKED BY HAND
 pub worked : AllRight lines
-worked = (line-1, (line-2, (line-3, (line-4, (line-5, (line-6, (line-7, (line-8, (line-9, (file-1, (file-2, (file-3, (file-4, (file-5, (file-6, (file-7, tt))))))))))))))))
+worked = (line_1, (line_2, (line_3, (line_4, (line_5, (line_6, (line_7, (line_8, (line_9, (file_1, (file_2, (file_3, (file_4, (file_5, (file_6, (file_7, tt))))))))))))))))

@@ -1,6 +1,6 @@
 -- `bids::better` meets its contract: what is handed back goes by the choice. Assumes nothing.
 use mathlib.Core.Path.{refl}
-use Rattle.bids.specs.Steps.{better-made}
+use Rattle.bids.specs.Steps.{better_made}
 use Rattle.bids.specs.declared.Choice.TheVariants.{Neither, First, Second}
 use borrow.Author.Rules.{rules}
 use Rattle.bids.proofs.better.Statement.{statement}
@@ -23,14 +23,14 @@ enum-told-3 c = search rules
 
 returns : tie.Need-returns
 returns c =
-    better-made _ _ _ _ _ _ _ c.before.before.before.before.side_by_side.ensures Neither c.before.enum_told.given.1
+    better_made _ _ _ _ _ _ _ c.before.before.before.before.side_by_side.ensures Neither c.before.enum_told.given.1
     (c.nothing.ensures.0, c.nothing.ensures.1, refl, refl, refl)
 
 returns-2 : tie.Need-returns-2
-returns-2 c = better-made _ _ _ _ _ _ _ c.before.before.before.side_by_side.ensures First c.enum-told2.given.1 (refl, refl, refl, refl)
+returns-2 c = better_made _ _ _ _ _ _ _ c.before.before.before.side_by_side.ensures First c.enum-told2.given.1 (refl, refl, refl, refl)
 
 returns-3 : tie.Need-returns-3
-returns-3 c = better-made _ _ _ _ _ _ _ c.before.before.before.side_by_side.ensures Second c.enum-told3.given.1 (refl, refl, refl, refl)
+returns-3 c = better_made _ _ _ _ _ _ _ c.before.before.before.side_by_side.ensures Second c.enum-told3.given.1 (refl, refl, refl, refl)
 
 pub better-spec : {M : Type 1} → statement M
 better-spec =

@@ -1,6 +1,6 @@
 -- `bids_program::main` is safe and ends: the text is the first part of what `bids_text::side_by_side` hands back. Assumes nothing of what is read.
 use borrow.Author.Rules.{rules}
-use Rattle.bids_text.specs.Pair.{pair-part}
+use Rattle.bids_text.specs.Pair.{pair_part}
 use Rattle.bids_program.proofs.main.Statement.{statement}
 use Rattle.bids_program.proofs.main.Tie as tie
 
@@ -44,10 +44,10 @@ side-by-side-requires : tie.Need-side-by-side-requires
 side-by-side-requires c κs = search rules
 
 array-share-prefix-bytes : tie.Need-array-share-prefix-bytes
-array-share-prefix-bytes c = (pair-part _ _ _ c.before.side_by_side.ensures).0
+array-share-prefix-bytes c = (pair_part _ _ _ c.before.side_by_side.ensures).0
 
 slice-aggregate-write-all : tie.Need-slice-aggregate-write-all
-slice-aggregate-write-all c = (pair-part _ _ _ c.before.before.side_by_side.ensures).1
+slice-aggregate-write-all c = (pair_part _ _ _ c.before.before.side_by_side.ensures).1
 
 write-all-requires : tie.Need-write-all-requires
 write-all-requires c κs = search rules

@@ -1,8 +1,8 @@
 -- `bids_text::better_line` meets its contract: one line for each choice. No loop. Assumes nothing.
 use mathlib.Core.Path.{sym, ap}
 use native.Mathlib.Omega.{arith}
-use Rattle.words.specs.Puts.{puts-same}
-use Rattle.bids_text.specs.Pair.{betterLine}
+use Rattle.words.specs.Puts.{puts_same}
+use Rattle.bids_text.specs.Pair.{better_line_of}
 use borrow.Author.Rules.{rules}
 use Rattle.bids_text.proofs.better_line.Statement.{statement}
 use Rattle.bids_text.proofs.better_line.Tie as tie
@@ -40,7 +40,7 @@ same_length c = search rules
 returns : tie.Need-returns
 returns c =
     let put = c.before.before.word.ensures in
-    (puts-same (sym (ap betterLine c.before.before.before.before.before.enum_told.given.1)) put, omega (arith, put.place))
+    (puts_same (sym (ap better_line_of c.before.before.before.before.before.enum_told.given.1)) put, omega (arith, put.place))
 
 same-length-2 : tie.Need-same-length-2
 same-length-2 c = search rules
@@ -48,7 +48,7 @@ same-length-2 c = search rules
 returns-2 : tie.Need-returns-2
 returns-2 c =
     let put = c.before.before.word2.ensures in
-    (puts-same (sym (ap betterLine c.before.before.before.before.before.enum-told2.given.1)) put, omega (arith, put.place))
+    (puts_same (sym (ap better_line_of c.before.before.before.before.before.enum-told2.given.1)) put, omega (arith, put.place))
 
 same-length-3 : tie.Need-same-length-3
 same-length-3 c = search rules
@@ -56,7 +56,7 @@ same-length-3 c = search rules
 returns-3 : tie.Need-returns-3
 returns-3 c =
     let put = c.before.before.word3.ensures in
-    (puts-same (sym (ap betterLine c.before.before.before.before.before.enum-told3.given.1)) put, omega (arith, put.place))
+    (puts_same (sym (ap better_line_of c.before.before.before.before.before.enum-told3.given.1)) put, omega (arith, put.place))
 
 pub better-line-spec : {M : Type 1} → statement M
 better-line-spec =

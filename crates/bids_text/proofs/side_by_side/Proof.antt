@@ -1,6 +1,6 @@
 -- `bids_text::side_by_side` meets its contract: the lines are put into a fresh buffer. No loop. Assumes nothing.
 use native.Mathlib.Omega.{arith}
-use Rattle.words.specs.Held.{holds-put}
+use Rattle.words.specs.Held.{holds_put}
 use borrow.Author.Rules.{rules}
 use Rattle.bids_text.proofs.side_by_side.Statement.{statement}
 use Rattle.bids_text.proofs.side_by_side.Tie as tie
@@ -17,7 +17,7 @@ lines-requires c κs = search rules
 returns : tie.Need-returns
 returns c =
     let put = c.before.lines.ensures in
-    record { laid = _; is-laid = c.before.before.before.side_by_side.ensures; is_held = holds-put _ _ _ put.0 (omega (arith, put.1)) }
+    record { laid = _; is_laid = c.before.before.before.side_by_side.ensures; is_held = holds_put _ _ _ put.0 (omega (arith, put.1)) }
 
 pub side-by-side-spec : {M : Type 1} → statement M
 side-by-side-spec =

@@ -6,8 +6,8 @@ use native.Mathlib.Omega.{arith}
 use borrow.Author.Rules.{rules}
 use mathlib.Core.Logic.{⊎_elim}
 use mathlib.Core.Bool.{false, true≢false}
-use Rattle.table.specs.Form.{ruleOf}
-use Rattle.columns.specs.Lay.{Laid, laid-start, laid_next, ordered}
+use Rattle.table.specs.Form.{rule_of}
+use Rattle.columns.specs.Lay.{Laid, laid_start, laid_next, ordered}
 use Rattle.columns.proofs.lay.Statement.{statement}
 use Rattle.columns.proofs.lay.Tie as tie
 
@@ -18,7 +18,7 @@ abbrev decreases-loop : tie.decreases-loop
 decreases-loop t m c₀ blank₀ i₀ c blank i = m - i
 
 loop-holds : tie.Need-loop-init invariant-loop decreases-loop
-loop-holds c = (refl, omega arith, c.requires.m-high, laid-start c.args.t1)
+loop-holds c = (refl, omega arith, c.requires.m_high, laid_start c.args.t1)
 
 mul-rule : tie.Need-overflow-mul-rule invariant-loop decreases-loop
 mul-rule c = omega arith
@@ -71,8 +71,8 @@ loop-again c =
     let s = l.before in
     let k = c.before.before in
     let given : c.if1.blank ≡ false → (l.loop.blank ≡ false) × (k.laid.result.least ≡ k.laid.result.greatest) =
-    ⊎_elim (λ w e. absurd (true≢false (sym w.1 ∙ e))) (λ w e. (sym w.1 ∙ e, omega (arith, k.laid.ensures.1, w.0, ordered (ruleOf s.args.t1 l.loop.i).delay))) c.if1.branch in
-    (refl, omega arith, s.requires.m-high, laid_next s.args.t1 l.loop.i _ _ _ _ _ l.loop.blank c.if1.blank _ _ _ _ _ l.loop.invariant.3 (omega arith) k.laid.ensures.0 k.laid.ensures.1 given)
+    ⊎_elim (λ w e. absurd (true≢false (sym w.1 ∙ e))) (λ w e. (sym w.1 ∙ e, omega (arith, k.laid.ensures.1, w.0, ordered (rule_of s.args.t1 l.loop.i).delay))) c.if1.branch in
+    (refl, omega arith, s.requires.m_high, laid_next s.args.t1 l.loop.i _ _ _ _ _ l.loop.blank c.if1.blank _ _ _ _ _ l.loop.invariant.3 (omega arith) k.laid.ensures.0 k.laid.ensures.1 given)
 
 returns : tie.Need-returns invariant-loop decreases-loop
 returns c =

@@ -1,6 +1,6 @@
 -- `period_analyse` meets its contract: the analysis of what its columns hand in. No loop. Assumes nothing.
 use borrow.Author.Rules.{rules}
-use Rattle.cperiod.specs.Steps.{analysis-same}
+use Rattle.cperiod.specs.Steps.{analysis_same}
 use Rattle.cperiod.proofs.period_analyse.Statement.{statement}
 use Rattle.cperiod.proofs.period_analyse.Tie as tie
 
@@ -20,7 +20,7 @@ same-length-3 : tie.Need-same-length-3
 same-length-3 c = search rules
 
 returns : tie.Need-returns
-returns c = analysis-same _ _ _ _ _ _ _ _ _ c.before.before.before.before.before.before.before.before.before.before.from-columns.ensures c.before.before.before.before.before.before.analysed.ensures
+returns c = analysis_same _ _ _ _ _ _ _ _ _ c.before.before.before.before.before.before.before.before.before.before.from-columns.ensures c.before.before.before.before.before.before.analysed.ensures
 
 pub period-analyse-spec : {M : Type 1} → statement M
 period-analyse-spec = tie.close (tie.spec from-columns-requires analysed-requires same_length same-length-2 same-length-3 returns)

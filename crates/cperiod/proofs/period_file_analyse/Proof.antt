@@ -1,6 +1,6 @@
 -- `period_file_analyse` meets its contract: the analysis of what its bytes hand in. No loop. Assumes nothing.
 use native.Mathlib.Omega.{arith}
-use Rattle.cperiod.specs.Steps.{analysis-same}
+use Rattle.cperiod.specs.Steps.{analysis_same}
 use Rattle.cperiod.proofs.period_file_analyse.Statement.{statement}
 use Rattle.cperiod.proofs.period_file_analyse.Tie as tie
 
@@ -20,7 +20,7 @@ same-length-3 : tie.Need-same-length-3
 same-length-3 c = omega arith
 
 returns : tie.Need-returns
-returns c = analysis-same _ _ _ _ _ _ _ _ _ c.before.before.before.before.before.before.before.before.before.before.from-file.ensures.0 c.before.before.before.before.before.before.analysed.ensures
+returns c = analysis_same _ _ _ _ _ _ _ _ _ c.before.before.before.before.before.before.before.before.before.before.from-file.ensures.0 c.before.before.before.before.before.before.analysed.ensures
 
 pub period-file-analyse-spec : {M : Type 1} → statement M
 period-file-analyse-spec =

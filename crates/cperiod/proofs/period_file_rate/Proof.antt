@@ -1,6 +1,6 @@
 -- `period_file_rate` meets its contract: the rate of what its bytes hand in, or its refusal. No loop. Assumes nothing.
 use borrow.Author.Rules.{rules}
-use Rattle.cperiod.specs.Steps.{rate-refused, rate-given, rate-same}
+use Rattle.cperiod.specs.Steps.{rate_refused, rate_given, rate_same}
 use Rattle.cperiod.proofs.period_file_rate.Statement.{statement}
 use Rattle.cperiod.proofs.period_file_rate.Tie as tie
 
@@ -11,7 +11,7 @@ unrated-requires : tie.Need-unrated-requires
 unrated-requires c κs = search rules
 
 returns : tie.Need-returns
-returns c = rate-same _ _ _ _ c.before.before.before.from-file.ensures.0 (rate-refused _ _ _ c.before.if1.true c.unrated.ensures)
+returns c = rate_same _ _ _ _ c.before.before.before.from-file.ensures.0 (rate_refused _ _ _ c.before.if1.true c.unrated.ensures)
 
 rate-requires : tie.Need-rate-requires
 rate-requires c κs = search rules
@@ -20,7 +20,7 @@ flat-rate-requires : tie.Need-flat-rate-requires
 flat-rate-requires c κs = search rules
 
 returns-2 : tie.Need-returns-2
-returns-2 c = rate-same _ _ _ _ c.before.before.before.before.before.from-file.ensures.0 (rate-given _ _ _ _ c.before.before.before.if1.false c.flat-rate.ensures c.before.rate.ensures)
+returns-2 c = rate_same _ _ _ _ c.before.before.before.before.before.from-file.ensures.0 (rate_given _ _ _ _ c.before.before.before.if1.false c.flat-rate.ensures c.before.rate.ensures)
 
 pub period-file-rate-spec : {M : Type 1} → statement M
 period-file-rate-spec =

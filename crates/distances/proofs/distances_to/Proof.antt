@@ -7,7 +7,7 @@ use Rattle.distances.proofs.distances_to.Statement.{statement}
 use Rattle.distances.proofs.distances_to.Tie as tie
 
 link-back-requires : tie.Need-link-back-requires
-link-back-requires c κs = let p = c.before.before.requires.0 in (p.few-rules, λ r l. omega (arith, p.fits r l, p.few-transitions), refl, refl)
+link-back-requires c κs = let p = c.before.before.requires.0 in (p.few_rules, λ r l. omega (arith, p.fits r l, p.few_transitions), refl, refl)
 
 near-requires : tie.Need-near-requires
 near-requires c κs = search rules

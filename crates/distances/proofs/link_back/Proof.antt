@@ -2,8 +2,8 @@
 -- The loop's invariant: the rules passed are linked. The measure is the number of rules left.
 -- Assumes nothing.
 use Prim.Native.Nat.{◌-◌, ◌≤◌}
-use Rattle.peel.specs.Linked.{Linked, linked-none}
-use Rattle.distances.specs.Links.{SameSource, linked-back}
+use Rattle.peel.specs.Linked.{Linked, linked_none}
+use Rattle.distances.specs.Links.{SameSource, linked_back}
 use mathlib.Core.Path.{◌≡◌}
 use native.Mathlib.Omega.{arith}
 use Rattle.distances.proofs.link_back.Statement.{statement}
@@ -16,7 +16,7 @@ abbrev decreases-loop : tie.decreases-loop
 decreases-loop source target len head₀ next₀ r₀ head next r = len - r
 
 loop-holds : tie.Need-loop-init invariant-loop decreases-loop
-loop-holds c = (omega arith, rw (c.requires.2, c.requires.3) (linked-none c.args.target.now))
+loop-holds c = (omega arith, rw (c.requires.2, c.requires.3) (linked_none c.args.target.now))
 
 mul_wide : tie.Need-overflow-mul-wide invariant-loop decreases-loop
 mul_wide c = omega arith
@@ -63,7 +63,7 @@ loop-again c =
     let l = w.before.before.before in
     let s = l.before in (
       omega arith,
-      linked-back s.args.source.now s.args.target.now l.loop.r l.loop.head l.loop.next l.loop.invariant.1 (omega arith) w.wide.result _ c.narrow.result w.wide.ensures (omega (arith, w.wide.ensures, s.requires.1 l.loop.r w.before.before.loop-test.true)) c.narrow.ensures c.before.before-rule.ensures,
+      linked_back s.args.source.now s.args.target.now l.loop.r l.loop.head l.loop.next l.loop.invariant.1 (omega arith) w.wide.result _ c.narrow.result w.wide.ensures (omega (arith, w.wide.ensures, s.requires.1 l.loop.r w.before.before.loop-test.true)) c.narrow.ensures c.before.before-rule.ensures,
     )
 
 returns : tie.Need-returns invariant-loop decreases-loop

@@ -5,8 +5,8 @@
 use Prim.Native.Nat.{◌-◌}
 use mathlib.Core.Path.{◌≡◌}
 use Rattle.peel.specs.Plain.{plain}
-use Rattle.peel.specs.Linked.{Points, points-first, points-last, points-rule, points-next, points-all}
-use Rattle.distances.specs.Queue.{Looking, looking-starts, looking-next, looking-full}
+use Rattle.peel.specs.Linked.{Points, points_first, points_last, points_rule, points_next, points_all}
+use Rattle.distances.specs.Queue.{Looking, looking_starts, looking_next, looking_full}
 use native.Mathlib.Omega.{arith}
 use Rattle.distances.proofs.look_back.Statement.{statement}
 use Rattle.distances.proofs.look_back.Tie as tie
@@ -31,14 +31,14 @@ loop-holds c =
     let s = c.before.before in
     let a = s.args in
     let e = c.wide.ensures in
-    (looking-starts (plain a.source.now a.target.now a.len) a.n a.v a.t a.d _ _ _ s.requires.1 _ (λ r b m. omega (arith, e, points-last a.target.now a.len a.head.now a.next.now s.requires.0.1 a.t r b m)), rw e (points-first a.target.now a.len a.head.now a.next.now s.requires.0.1 a.t))
+    (looking_starts (plain a.source.now a.target.now a.len) a.n a.v a.t a.d _ _ _ s.requires.1 _ (λ r b m. omega (arith, e, points_last a.target.now a.len a.head.now a.next.now s.requires.0.1 a.t r b m)), rw e (points_first a.target.now a.len a.head.now a.next.now s.requires.0.1 a.t))
 
 returns : tie.Need-returns invariant-loop decreases-loop
 returns c =
     let l = c.before.before in
     let s = l.before.before.before in
     let a = s.args in
-    looking-full (plain a.source.now a.target.now a.len) a.n a.v a.t a.d _ _ _ s.requires.1 s.requires.0.0.fits _ _ _ _ l.loop.invariant.0 c.if1.true
+    looking_full (plain a.source.now a.target.now a.len) a.n a.v a.t a.d _ _ _ s.requires.1 s.requires.0.0.fits _ _ _ _ l.loop.invariant.0 c.if1.true
 
 sub-r : tie.Need-overflow-sub-r invariant-loop decreases-loop
 sub-r c = omega arith
@@ -48,14 +48,14 @@ mul-wide-2 c =
     let l = c.before.before in
     let s = l.before.before.before in
     let a = s.args in
-    omega (arith, (points-rule a.target.now a.len a.head.now a.next.now s.requires.0.1 a.t l.loop.left l.loop.invariant.1 c.before.loop-test.true).0, s.requires.0.0.few-rules)
+    omega (arith, (points_rule a.target.now a.len a.head.now a.next.now s.requires.0.1 a.t l.loop.left l.loop.invariant.1 c.before.loop-test.true).0, s.requires.0.0.few_rules)
 
 element-copy-out-wide-2 : tie.Need-element-copy-out-wide-2 invariant-loop decreases-loop
 element-copy-out-wide-2 c =
     let l = c.before.before in
     let s = l.before.before.before in
     let a = s.args in
-    omega (arith, (points-rule a.target.now a.len a.head.now a.next.now s.requires.0.1 a.t l.loop.left l.loop.invariant.1 c.before.loop-test.true).0, s.requires.0.0.few-rules)
+    omega (arith, (points_rule a.target.now a.len a.head.now a.next.now s.requires.0.1 a.t l.loop.left l.loop.invariant.1 c.before.loop-test.true).0, s.requires.0.0.few_rules)
 
 wide-requires-2 : tie.Need-wide-requires-2 invariant-loop decreases-loop
 wide-requires-2 c κs = tt
@@ -65,22 +65,22 @@ note-requires c κs =
     let l = c.before.before.before.before.before.before in
     let s = l.before.before.before in
     let a = s.args in
-    let rule = points-rule a.target.now a.len a.head.now a.next.now s.requires.0.1 a.t l.loop.left l.loop.invariant.1 c.before.before.before.before.before.loop-test.true in
-    (omega (arith, c.before.before.wide2.ensures, s.requires.0.0.fits (l.loop.left - 1) rule.0, s.requires.0.0.few-transitions), s.requires.1.low, omega (arith, s.requires.0.0.few-transitions))
+    let rule = points_rule a.target.now a.len a.head.now a.next.now s.requires.0.1 a.t l.loop.left l.loop.invariant.1 c.before.before.before.before.before.loop-test.true in
+    (omega (arith, c.before.before.wide2.ensures, s.requires.0.0.fits (l.loop.left - 1) rule.0, s.requires.0.0.few_transitions), s.requires.1.low, omega (arith, s.requires.0.0.few_transitions))
 
 mul-wide-3 : tie.Need-overflow-mul-wide-3 invariant-loop decreases-loop
 mul-wide-3 c =
     let l = c.before.before.before.before.before.before.before in
     let s = l.before.before.before in
     let a = s.args in
-    omega (arith, (points-rule a.target.now a.len a.head.now a.next.now s.requires.0.1 a.t l.loop.left l.loop.invariant.1 c.before.before.before.before.before.before.loop-test.true).0, s.requires.0.0.few-rules)
+    omega (arith, (points_rule a.target.now a.len a.head.now a.next.now s.requires.0.1 a.t l.loop.left l.loop.invariant.1 c.before.before.before.before.before.before.loop-test.true).0, s.requires.0.0.few_rules)
 
 element-copy-out-wide-3 : tie.Need-element-copy-out-wide-3 invariant-loop decreases-loop
 element-copy-out-wide-3 c =
     let l = c.before.before.before.before.before.before.before in
     let s = l.before.before.before in
     let a = s.args in
-    omega (arith, (points-rule a.target.now a.len a.head.now a.next.now s.requires.0.1 a.t l.loop.left l.loop.invariant.1 c.before.before.before.before.before.before.loop-test.true).0, s.requires.0.0.few-rules)
+    omega (arith, (points_rule a.target.now a.len a.head.now a.next.now s.requires.0.1 a.t l.loop.left l.loop.invariant.1 c.before.before.before.before.before.before.loop-test.true).0, s.requires.0.0.few_rules)
 
 wide-requires-3 : tie.Need-wide-requires-3 invariant-loop decreases-loop
 wide-requires-3 c κs = tt
@@ -90,16 +90,16 @@ loop-less c =
     let l = c.before.before.before.before.before.before.before.before.before in
     let s = l.before.before.before in
     let a = s.args in
-    omega (arith, points-next a.target.now a.len a.head.now a.next.now s.requires.0.1 a.t l.loop.left l.loop.invariant.1 c.before.before.before.before.before.before.before.before.loop-test.true _ c.wide3.ensures, c.before.before.before.before.before.before.before.before.loop-test.true)
+    omega (arith, points_next a.target.now a.len a.head.now a.next.now s.requires.0.1 a.t l.loop.left l.loop.invariant.1 c.before.before.before.before.before.before.before.before.loop-test.true _ c.wide3.ensures, c.before.before.before.before.before.before.before.before.loop-test.true)
 
 loop-again : tie.Need-loop-preserved invariant-loop decreases-loop
 loop-again c =
     let l = c.before.before.before.before.before.before.before.before.before in
     let s = l.before.before.before in
     let a = s.args in
-    let rule = points-rule a.target.now a.len a.head.now a.next.now s.requires.0.1 a.t l.loop.left l.loop.invariant.1 c.before.before.before.before.before.before.before.before.loop-test.true in (
-      looking-next (plain a.source.now a.target.now a.len) a.n a.v a.t a.d _ _ _ s.requires.1 _ _ _ l.loop.left (l.loop.left - 1) _ c.wide3.result l.loop.invariant.0 c.before.before.before.before.before.before.before.if1.false rule.0 rule.1 c.before.before.before.before.before.wide2.ensures (omega (arith, c.before.before.before.before.before.wide2.ensures, s.requires.0.0.fits (l.loop.left - 1) rule.0)) (points-all a.target.now a.len a.head.now a.next.now s.requires.0.1 a.t l.loop.left l.loop.invariant.1 c.before.before.before.before.before.before.before.before.loop-test.true c.wide3.result c.wide3.ensures) (omega (arith, c.before.before.before.before.before.before.before.before.loop-test.true)) _ _ _ c.before.before.note.ensures,
-      (points-next a.target.now a.len a.head.now a.next.now s.requires.0.1 a.t l.loop.left l.loop.invariant.1 c.before.before.before.before.before.before.before.before.loop-test.true _ c.wide3.ensures).1,
+    let rule = points_rule a.target.now a.len a.head.now a.next.now s.requires.0.1 a.t l.loop.left l.loop.invariant.1 c.before.before.before.before.before.before.before.before.loop-test.true in (
+      looking_next (plain a.source.now a.target.now a.len) a.n a.v a.t a.d _ _ _ s.requires.1 _ _ _ l.loop.left (l.loop.left - 1) _ c.wide3.result l.loop.invariant.0 c.before.before.before.before.before.before.before.if1.false rule.0 rule.1 c.before.before.before.before.before.wide2.ensures (omega (arith, c.before.before.before.before.before.wide2.ensures, s.requires.0.0.fits (l.loop.left - 1) rule.0)) (points_all a.target.now a.len a.head.now a.next.now s.requires.0.1 a.t l.loop.left l.loop.invariant.1 c.before.before.before.before.before.before.before.before.loop-test.true c.wide3.result c.wide3.ensures) (omega (arith, c.before.before.before.before.before.before.before.before.loop-test.true)) _ _ _ c.before.before.note.ensures,
+      (points_next a.target.now a.len a.head.now a.next.now s.requires.0.1 a.t l.loop.left l.loop.invariant.1 c.before.before.before.before.before.before.before.before.loop-test.true _ c.wide3.ensures).1,
     )
 
 returns-2 : tie.Need-returns-2 invariant-loop decreases-loop

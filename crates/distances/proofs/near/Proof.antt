@@ -4,7 +4,7 @@
 use Prim.Native.Nat.{◌-◌}
 use mathlib.Core.Logic.{inl, inr}
 use Rattle.peel.specs.Plain.{plain}
-use Rattle.distances.specs.Queue.{Spreading, ready-home, ready-next, spreading-starts, spreading-next, spreading-ends}
+use Rattle.distances.specs.Queue.{Spreading, ready_home, ready_next, spreading_starts, spreading_next, spreading_ends}
 use native.Mathlib.Omega.{arith}
 use Rattle.distances.proofs.near.Statement.{statement}
 use Rattle.distances.proofs.near.Tie as tie
@@ -20,19 +20,19 @@ look-back-requires c κs =
     let s = c.before.before in
     let a = s.args in
     let p = s.requires.0 in
-    ((p, s.requires.1, omega (arith, s.requires.2, p.few-transitions)), ready-home (plain a.source.now a.target.now a.len) a.n a.v p.some-transition p.few-transitions)
+    ((p, s.requires.1, omega (arith, s.requires.2, p.few_transitions)), ready_home (plain a.source.now a.target.now a.len) a.n a.v p.some_transition p.few_transitions)
 
 loop-holds : tie.Need-loop-init invariant-loop decreases-loop
 loop-holds c =
     let a = c.before.before.before.args in
-    spreading-starts (plain a.source.now a.target.now a.len) a.n a.v _ _ _ _ _ c.look-back.ensures
+    spreading_starts (plain a.source.now a.target.now a.len) a.n a.v _ _ _ _ _ c.look-back.ensures
 
 returns : tie.Need-returns invariant-loop decreases-loop
 returns c =
     let l = c.before.before in
     let s = l.before.before.before.before in
     let a = s.args in
-    spreading-ends (plain a.source.now a.target.now a.len) a.n a.v _ _ _ _ l.loop.invariant s.requires.0.fits (inr c.if1.true)
+    spreading_ends (plain a.source.now a.target.now a.len) a.n a.v _ _ _ _ l.loop.invariant s.requires.0.fits (inr c.if1.true)
 
 mul_wide : tie.Need-overflow-mul-wide invariant-loop decreases-loop
 mul_wide c = omega (arith, c.before.before.loop.invariant.queued.few)
@@ -61,7 +61,7 @@ look-back-requires-2 c κs =
     let s = l.before.before.before.before in
     let a = s.args in
     let t = c.before.before.before.wide.ensures in
-    ((s.requires.0, s.requires.1, omega (arith, t, l.loop.invariant.queued.row.low l.loop.done)), ready-next (plain a.source.now a.target.now a.len) a.n a.v _ _ _ _ l.loop.invariant c.before.before.before.before.before.loop-test.true _ _ t (omega (arith, c.before.before.wide2.ensures)))
+    ((s.requires.0, s.requires.1, omega (arith, t, l.loop.invariant.queued.row.low l.loop.done)), ready_next (plain a.source.now a.target.now a.len) a.n a.v _ _ _ _ l.loop.invariant c.before.before.before.before.before.loop-test.true _ _ t (omega (arith, c.before.before.wide2.ensures)))
 
 add_done : tie.Need-overflow-add-done invariant-loop decreases-loop
 add_done c = omega (arith, c.before.before.before.before.before.before.before.loop.invariant.queued.few)
@@ -73,14 +73,14 @@ loop-again : tie.Need-loop-preserved invariant-loop decreases-loop
 loop-again c =
     let l = c.before.before.before.before.before.before.before in
     let a = l.before.before.before.before.args in
-    spreading-next (plain a.source.now a.target.now a.len) a.n a.v _ _ _ _ l.loop.invariant c.before.before.before.before.before.before.loop-test.true _ _ c.before.before.before.before.wide.ensures (omega (arith, c.before.before.before.wide2.ensures)) _ _ _ c.look-back2.ensures
+    spreading_next (plain a.source.now a.target.now a.len) a.n a.v _ _ _ _ l.loop.invariant c.before.before.before.before.before.before.loop-test.true _ _ c.before.before.before.before.wide.ensures (omega (arith, c.before.before.before.wide2.ensures)) _ _ _ c.look-back2.ensures
 
 returns-2 : tie.Need-returns-2 invariant-loop decreases-loop
 returns-2 c =
     let l = c.before in
     let s = l.before.before.before.before in
     let a = s.args in
-    spreading-ends (plain a.source.now a.target.now a.len) a.n a.v _ _ _ _ l.loop.invariant s.requires.0.fits (inl c.loop-test.false)
+    spreading_ends (plain a.source.now a.target.now a.len) a.n a.v _ _ _ _ l.loop.invariant s.requires.0.fits (inl c.loop-test.false)
 
 pub near-spec : {M : Type 1} → statement M
 near-spec =

@@ -2,7 +2,7 @@
 use mathlib.Core.Path.{sym, ◌∙◌}
 use native.Mathlib.Omega.{arith}
 use borrow.Author.Rules.{rules}
-use Rattle.handed.specs.Steps.{whole, read-refused, read-short-source, read_short, read_all}
+use Rattle.handed.specs.Steps.{whole, read_refused, read_short_source, read_short, read_all}
 use Rattle.handed.proofs.columns_of.Statement.{statement}
 use Rattle.handed.proofs.columns_of.Tie as tie
 
@@ -10,13 +10,13 @@ unread-requires : tie.Need-unread-requires
 unread-requires c κs = search rules
 
 returns : tie.Need-returns
-returns c = read-refused _ _ _ c.before.if1.true c.unread.ensures
+returns c = read_refused _ _ _ c.before.if1.true c.unread.ensures
 
 unread-requires-2 : tie.Need-unread-requires-2
 unread-requires-2 c κs = search rules
 
 returns-2 : tie.Need-returns-2
-returns-2 c = read-short-source _ _ _ c.before.before.before.if1.false c.before.if2.true c.unread2.ensures
+returns-2 c = read_short_source _ _ _ c.before.before.before.if1.false c.before.if2.true c.unread2.ensures
 
 short-requires : tie.Need-short-requires
 short-requires c κs = search rules

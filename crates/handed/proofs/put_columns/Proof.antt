@@ -5,20 +5,20 @@ use mathlib.Core.Path.{◌≡◌, refl}
 use native.Mathlib.Omega.{arith}
 use lib.ListN.{length, length-set}
 use borrow.Author.Rules.{rules}
-use Rattle.handed.specs.Steps.{put_next, put-none, put_all, columns-same}
-use Rattle.table.specs.Form.{ruleOf}
-use Rattle.handed.specs.Columns.{putTo, delayIn, knownIn}
+use Rattle.handed.specs.Steps.{put_next, put_none, put_all, columns_same}
+use Rattle.table.specs.Form.{rule_of}
+use Rattle.handed.specs.Columns.{put_to, delay_in_of, known_in_of}
 use Rattle.handed.proofs.put_columns.Statement.{statement}
 use Rattle.handed.proofs.put_columns.Tie as tie
 
 abbrev invariant-loop : tie.invariant-loop
-invariant-loop source₀ target₀ offset₀ delay₀ known₀ t m r₀ source target offset delay known r = (r ≤ m) × (source ≡ putTo (λ k. (ruleOf t k).source) source₀ r) × (target ≡ putTo (λ k. (ruleOf t k).target) target₀ r) × (offset ≡ putTo (λ k. (ruleOf t k).offset) offset₀ r) × (delay ≡ putTo (λ k. delayIn (ruleOf t k).delay) delay₀ r) × (known ≡ putTo (λ k. knownIn (ruleOf t k).delay) known₀ r) × (length source ≡ length source₀) × (length target ≡ length target₀) × (length offset ≡ length offset₀) × (length delay ≡ length delay₀) × (length known ≡ length known₀)
+invariant-loop source₀ target₀ offset₀ delay₀ known₀ t m r₀ source target offset delay known r = (r ≤ m) × (source ≡ put_to (λ k. (rule_of t k).source) source₀ r) × (target ≡ put_to (λ k. (rule_of t k).target) target₀ r) × (offset ≡ put_to (λ k. (rule_of t k).offset) offset₀ r) × (delay ≡ put_to (λ k. delay_in_of (rule_of t k).delay) delay₀ r) × (known ≡ put_to (λ k. known_in_of (rule_of t k).delay) known₀ r) × (length source ≡ length source₀) × (length target ≡ length target₀) × (length offset ≡ length offset₀) × (length delay ≡ length delay₀) × (length known ≡ length known₀)
 
 abbrev decreases-loop : tie.decreases-loop
 decreases-loop source₀ target₀ offset₀ delay₀ known₀ t m r₀ source target offset delay known r = m - r
 
 loop-holds : tie.Need-loop-init invariant-loop decreases-loop
-loop-holds c = (omega arith, put-none _ _, put-none _ _, put-none _ _, put-none _ _, put-none _ _, refl, refl, refl, refl, refl)
+loop-holds c = (omega arith, put_none _ _, put_none _ _, put_none _ _, put_none _ _, put_none _ _, refl, refl, refl, refl, refl)
 
 mul-rule : tie.Need-overflow-mul-rule invariant-loop decreases-loop
 mul-rule c = omega arith
@@ -100,7 +100,7 @@ returns : tie.Need-returns invariant-loop decreases-loop
 returns c =
     let l = c.before.loop in
     let e : l.r ≡ c.before.before.before.before.before.before.before.args.t1.m = omega arith in
-    columns-same _ _ _ _ _ _ _ _ _ _ (put_all _ _ _ _ _ e l.invariant.1) (put_all _ _ _ _ _ e l.invariant.2) (put_all _ _ _ _ _ e l.invariant.3) (put_all _ _ _ _ _ e l.invariant.4) (put_all _ _ _ _ _ e l.invariant.5)
+    columns_same _ _ _ _ _ _ _ _ _ _ (put_all _ _ _ _ _ e l.invariant.1) (put_all _ _ _ _ _ e l.invariant.2) (put_all _ _ _ _ _ e l.invariant.3) (put_all _ _ _ _ _ e l.invariant.4) (put_all _ _ _ _ _ e l.invariant.5)
 
 pub put-columns-spec : {M : Type 1} → statement M
 put-columns-spec =

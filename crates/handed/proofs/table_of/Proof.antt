@@ -5,15 +5,15 @@ use mathlib.Core.Path.{◌≡◌}
 use native.Mathlib.Omega.{arith}
 use lib.ListN.{length}
 use borrow.Author.Rules.{rules}
-use Rattle.handed.specs.Steps.{stored-within, sized-is, filled_none, filled_next, filled-all}
-use Rattle.handed.specs.Columns.{columns, filledTo}
+use Rattle.handed.specs.Steps.{stored_within, sized_is, filled_none, filled_next, filled_all}
+use Rattle.handed.specs.Columns.{columns, filled_to}
 use Rattle.table.specs.Form.{sized}
-use Rattle.table.specs.Limits.{maxM}
+use Rattle.table.specs.Limits.{max_m}
 use Rattle.handed.proofs.table_of.Statement.{statement}
 use Rattle.handed.proofs.table_of.Tie as tie
 
 abbrev invariant-loop : tie.invariant-loop
-invariant-loop n source target offset delay known t₀ count r₀ t r = (r ≤ count) × (count ≤ length source) × (count ≤ maxM) × (t ≡ filledTo (columns source target offset delay known) (sized n (length source)) r)
+invariant-loop n source target offset delay known t₀ count r₀ t r = (r ≤ count) × (count ≤ length source) × (count ≤ max_m) × (t ≡ filled_to (columns source target offset delay known) (sized n (length source)) r)
 
 abbrev decreases-loop : tie.decreases-loop
 decreases-loop n source target offset delay known t₀ count r₀ t r = count - r
@@ -27,8 +27,8 @@ places-for-requires c κs = search rules
 loop-holds : tie.Need-loop-init invariant-loop decreases-loop
 loop-holds c =
     let a = c.before.before.before.before.before.before.before.args in
-    let k = stored-within (length a.source.now) c.places-for.result c.places-for.ensures in
-    (omega arith, k.0, k.1, filled_none _ _ _ (sized-is a.n (length a.source.now) _ c.before.empty.ensures))
+    let k = stored_within (length a.source.now) c.places-for.result c.places-for.ensures in
+    (omega arith, k.0, k.1, filled_none _ _ _ (sized_is a.n (length a.source.now) _ c.before.empty.ensures))
 
 mul-rule-from : tie.Need-overflow-mul-rule-from invariant-loop decreases-loop
 mul-rule-from c = omega arith
@@ -81,7 +81,7 @@ returns : tie.Need-returns invariant-loop decreases-loop
 returns c =
     let l = c.before.loop in
     let e : l.r ≡ c.before.before.places-for.result = omega arith in
-    filled-all _ _ _ _ _ c.before.before.places-for.ensures e l.invariant.3
+    filled_all _ _ _ _ _ c.before.before.places-for.ensures e l.invariant.3
 
 pub table-of-spec : {M : Type 1} → statement M
 table-of-spec =

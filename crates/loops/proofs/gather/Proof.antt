@@ -4,7 +4,7 @@
 use Prim.Native.Nat.{◌-◌, ◌≤◌}
 use mathlib.Core.Path.{◌≡◌, ap}
 use lib.ListN.{length, get_or, length-set}
-use Rattle.loops.specs.Listed.{Gathered, gathered-add}
+use Rattle.loops.specs.Listed.{Gathered, gathered_add}
 use native.Mathlib.Omega.{arith}
 use Rattle.loops.proofs.gather.Statement.{statement}
 use Rattle.loops.proofs.gather.Tie as tie
@@ -49,7 +49,7 @@ loop-again : tie.Need-loop-preserved invariant-loop decreases-loop
 loop-again c =
     let l = c.before.before.before.before in
     let s = l.before.args in
-    (omega arith, simp length-set l.loop.invariant.1, gathered-add s.column.now s.list.now l.loop.picked l.loop.j _ l.loop.invariant.2 (omega arith) (ap (λ x. get_or s.column.now x 0) c.before.wide.ensures))
+    (omega arith, simp length-set l.loop.invariant.1, gathered_add s.column.now s.list.now l.loop.picked l.loop.j _ l.loop.invariant.2 (omega arith) (ap (λ x. get_or s.column.now x 0) c.before.wide.ensures))
 
 returns : tie.Need-returns invariant-loop decreases-loop
 returns c = let l = c.before in λ j b. l.loop.invariant.2 j (omega arith)

@@ -4,7 +4,7 @@
 use Prim.Native.Nat.{◌-◌, ◌≤◌, ◌<◌}
 use mathlib.Core.Path.{◌≡◌, refl, ap}
 use lib.ListN.{length, get_or, length-set}
-use Rattle.loops.specs.Found.{Routed, route-step, route-ends, numbers}
+use Rattle.loops.specs.Found.{Routed, route_step, route_ends, numbers}
 use Rattle.loops.specs.Ways.{followed}
 use native.Mathlib.Omega.{arith}
 use Rattle.loops.proofs.route.Statement.{statement}
@@ -66,14 +66,14 @@ loop-again c =
       omega arith,
       omega (arith, l.before.requires.steps l.loop.u l.loop.invariant.1, ap (λ x. get_or s.target.now x 0) j),
       simp length-set l.loop.invariant.2,
-      route-step s.target.now s.list.now s.next.now s.v s.k l.loop.i l.loop.u l.loop.rules _ _ _ l.loop.invariant.3 (omega arith) (omega (arith, l.before.requires.short)) j refl c.wide2.ensures,
+      route_step s.target.now s.list.now s.next.now s.v s.k l.loop.i l.loop.u l.loop.rules _ _ _ l.loop.invariant.3 (omega arith) (omega (arith, l.before.requires.short)) j refl c.wide2.ensures,
     )
 
 returns : tie.Need-returns invariant-loop decreases-loop
 returns c =
     let l = c.before in
     let a = l.before.args in
-    route-ends a.target.now a.list.now a.next.now a.v a.k l.loop.i l.loop.u l.loop.rules l.loop.invariant.3 (omega arith)
+    route_ends a.target.now a.list.now a.next.now a.v a.k l.loop.i l.loop.u l.loop.rules l.loop.invariant.3 (omega arith)
 
 pub route-spec : {M : Type 1} → statement M
 route-spec =

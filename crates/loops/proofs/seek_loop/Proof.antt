@@ -5,8 +5,8 @@ use Prim.Native.Nat.{◌-◌, ◌≤◌}
 use mathlib.Core.Path.{refl}
 use mathlib.Core.Logic.{⊎_elim}
 use Rattle.peel.specs.Plain.{plain}
-use Rattle.loops.specs.Listed.{limits-within}
-use Rattle.loops.specs.Found.{NoneBelow, none-struck, none-far, ready, found_here, found_none}
+use Rattle.loops.specs.Listed.{limits_within}
+use Rattle.loops.specs.Found.{NoneBelow, none_struck, none_far, ready, found_here, found_none}
 use native.Mathlib.Omega.{arith}
 use Rattle.loops.proofs.seek_loop.Statement.{statement}
 use Rattle.loops.proofs.seek_loop.Tie as tie
@@ -21,10 +21,10 @@ loop-holds : tie.Need-loop-init invariant-loop decreases-loop
 loop-holds c = (omega arith, λ w js l. absurd (omega arith))
 
 element-copy-out-if1 : tie.Need-element-copy-out-if1 invariant-loop decreases-loop
-element-copy-out-if1 c = omega (arith, c.before.before.before.before.before.requires.0.few-transitions)
+element-copy-out-if1 c = omega (arith, c.before.before.before.before.before.requires.0.few_transitions)
 
 link-back-requires : tie.Need-link-back-requires invariant-loop decreases-loop
-link-back-requires c κs = let p = c.before.before.requires.0 in (p.few-rules, λ r l. omega (arith, p.fits r l, p.few-transitions), refl, refl)
+link-back-requires c κs = let p = c.before.before.requires.0 in (p.few_rules, λ r l. omega (arith, p.fits r l, p.few_transitions), refl, refl)
 
 near-requires : tie.Need-near-requires invariant-loop decreases-loop
 near-requires c κs =
@@ -34,10 +34,10 @@ near-requires c κs =
     (s.requires.0, l.before.link-back.ensures, c.before.before.before.before.loop-test.true)
 
 mul_wide : tie.Need-overflow-mul-wide invariant-loop decreases-loop
-mul_wide c = omega (arith, c.before.before.before.before.before.before.before.before.before.before.before.requires.0.few-transitions)
+mul_wide c = omega (arith, c.before.before.before.before.before.before.before.before.before.before.before.requires.0.few_transitions)
 
 array-read-wide : tie.Need-array-read-wide invariant-loop decreases-loop
-array-read-wide c = omega (arith, c.before.before.before.before.before.before.before.before.before.before.before.requires.0.few-transitions)
+array-read-wide c = omega (arith, c.before.before.before.before.before.before.before.before.before.before.before.requires.0.few_transitions)
 
 wide-requires : tie.Need-wide-requires invariant-loop decreases-loop
 wide-requires c κs = omega arith
@@ -46,7 +46,7 @@ ways-requires : tie.Need-ways-requires invariant-loop decreases-loop
 ways-requires c κs =
     let s = c.before.before.before.before.before.before.before.before.before.before.before.before.before.before in
     let a = s.args in
-    (limits-within a.source.now a.target.now a.len a.n s.requires.0, c.before.before.before.before.near.ensures.near.low)
+    (limits_within a.source.now a.target.now a.len a.n s.requires.0, c.before.before.before.before.near.ensures.near.low)
 
 route-requires : tie.Need-route-requires invariant-loop decreases-loop
 route-requires c κs =
@@ -78,8 +78,8 @@ loop-again c =
     let a = s.args in (
       omega arith,
       ⊎_elim
-          (λ w. none-far (plain a.source.now a.target.now a.len) l.loop.at l.loop.invariant.1 a.n w.3.result.dist s.requires.0.fits s.requires.0.few-transitions w.3.ensures.settled (omega (arith, w.6.left)))
-          (λ w. none-struck (plain a.source.now a.target.now a.len) l.loop.at l.loop.invariant.1 a.alive.now s.requires.1 (λ e. omega (arith, w.left)))
+          (λ w. none_far (plain a.source.now a.target.now a.len) l.loop.at l.loop.invariant.1 a.n w.3.result.dist s.requires.0.fits s.requires.0.few_transitions w.3.ensures.settled (omega (arith, w.6.left)))
+          (λ w. none_struck (plain a.source.now a.target.now a.len) l.loop.at l.loop.invariant.1 a.alive.now s.requires.1 (λ e. omega (arith, w.left)))
           c.if1.branch,
     )
 

@@ -6,21 +6,21 @@ use mathlib.Core.Path.{◌≡◌, ap}
 use lib.ListN.{length, get_or, length-set}
 use mathlib.Core.Logic.{⊎_elim}
 use Rattle.theory.specs.Schedule.{TightRule}
-use Rattle.columns.specs.Columns.{shape, delayAt}
-use Rattle.loops.specs.Listed.{Listed, listed-none, listed-add, listed-past, listed-skip}
+use Rattle.columns.specs.Columns.{shape, delay_at}
+use Rattle.loops.specs.Listed.{Listed, listed_none, listed_add, listed_past, listed_skip}
 use native.Mathlib.Omega.{arith}
 use borrow.Author.Rules.{rules}
 use Rattle.loops.proofs.tight_rules.Statement.{statement}
 use Rattle.loops.proofs.tight_rules.Tie as tie
 
 abbrev invariant-loop : tie.invariant-loop
-invariant-loop source target offset delay m p q x rules₀ len₀ r₀ rules len r = (r ≤ m) × (length rules ≡ 2048) × Listed (TightRule (shape source target offset m) (delayAt delay) p q x) rules len r
+invariant-loop source target offset delay m p q x rules₀ len₀ r₀ rules len r = (r ≤ m) × (length rules ≡ 2048) × Listed (TightRule (shape source target offset m) (delay_at delay) p q x) rules len r
 
 abbrev decreases-loop : tie.decreases-loop
 decreases-loop source target offset delay m p q x rules₀ len₀ r₀ rules len r = m - r
 
 loop-holds : tie.Need-loop-init invariant-loop decreases-loop
-loop-holds c = (omega arith, search rules, listed-none _ _)
+loop-holds c = (omega arith, search rules, listed_none _ _)
 
 mul_wide : tie.Need-overflow-mul-wide invariant-loop decreases-loop
 mul_wide c = omega arith
@@ -68,7 +68,7 @@ tight-requires : tie.Need-tight-requires invariant-loop decreases-loop
 tight-requires c κs =
     let i = c.before.before.before.before.before.before.before.before.before in
     let s = i.before.before.requires in
-    (s.1.1.2 _, s.1.1.2 _, s.0.small-offsets _ i.loop-test.true, s.1.0 _ i.loop-test.true, s.1.1.0, s.1.1.1)
+    (s.1.1.2 _, s.1.1.2 _, s.0.small_offsets _ i.loop-test.true, s.1.0 _ i.loop-test.true, s.1.1.0, s.1.1.1)
 
 narrow-requires : tie.Need-narrow-requires invariant-loop decreases-loop
 narrow-requires c κs = omega arith
@@ -92,7 +92,7 @@ loop-again : tie.Need-loop-preserved invariant-loop decreases-loop
 loop-again c =
     let l = c.before.before.before.before.before.before.before.before.before.before.before.before in
     let a = l.before.args in
-    let A = TightRule (shape a.source.now a.target.now a.offset.now a.m) (delayAt a.delay.now) a.p a.q a.x.now in
+    let A = TightRule (shape a.source.now a.target.now a.offset.now a.m) (delay_at a.delay.now) a.p a.q a.x.now in
     let from = ap (λ v. get_or a.x.now v 0) c.before.before.before.before.before.before.before.before.before.wide.ensures in
     let to = ap (λ v. get_or a.x.now v 0) c.before.before.before.before.before.before.before.wide2.ensures in
     let n = c.before.before.before.before.before.before.narrow.ensures in
@@ -100,8 +100,8 @@ loop-again c =
       omega arith,
       simp length-set l.loop.invariant.1,
       ⊎_elim
-          (λ w. rw (w.1, n) (listed-add A l.loop.rules l.loop.len l.loop.r l.loop.invariant.2 (omega (arith, e.0 w.0.taken)) (omega (arith, l.loop.invariant.2.few, l.before.requires.0.few-rules))))
-          (λ w. rw (w.1, n) (listed-skip A _ l.loop.len l.loop.r (listed-past A l.loop.rules l.loop.len l.loop.r l.loop.r l.loop.invariant.2) (λ t. e.1 w.0.left (omega (arith, t)))))
+          (λ w. rw (w.1, n) (listed_add A l.loop.rules l.loop.len l.loop.r l.loop.invariant.2 (omega (arith, e.0 w.0.taken)) (omega (arith, l.loop.invariant.2.few, l.before.requires.0.few_rules))))
+          (λ w. rw (w.1, n) (listed_skip A _ l.loop.len l.loop.r (listed_past A l.loop.rules l.loop.len l.loop.r l.loop.r l.loop.invariant.2) (λ t. e.1 w.0.left (omega (arith, t)))))
           c.if1.branch,
     )
 

@@ -6,8 +6,8 @@ use mathlib.Core.Path.{◌≡◌}
 use lib.ListN.{get_or}
 use mathlib.Core.Logic.{⊎_elim}
 use Rattle.peel.specs.Plain.{plain}
-use Rattle.distances.specs.Near.{away-most}
-use Rattle.loops.specs.Ways.{Ways, ways-none, ways-led, ways-passed}
+use Rattle.distances.specs.Near.{away_most}
+use Rattle.loops.specs.Ways.{Ways, ways_none, ways_led, ways_passed}
 use native.Mathlib.Omega.{arith}
 use Rattle.loops.proofs.ways.Statement.{statement}
 use Rattle.loops.proofs.ways.Tie as tie
@@ -19,7 +19,7 @@ abbrev decreases-loop : tie.decreases-loop
 decreases-loop source target len v dist next₀ i₀ next i = len - i
 
 loop-holds : tie.Need-loop-init invariant-loop decreases-loop
-loop-holds c = let a = c.args in (omega arith, ways-none (plain a.source.now a.target.now a.len) a.v a.dist.now)
+loop-holds c = let a = c.args in (omega arith, ways_none (plain a.source.now a.target.now a.len) a.v a.dist.now)
 
 turn-requires : tie.Need-turn-requires invariant-loop decreases-loop
 turn-requires c κs = omega arith
@@ -52,13 +52,13 @@ away-requires : tie.Need-away-requires invariant-loop decreases-loop
 away-requires c κs = omega arith
 
 add-if1 : tie.Need-overflow-add-if1 invariant-loop decreases-loop
-add-if1 c = let s = c.before.before.before.before.before.before.before.before.before in let t = c.before.before.wide2.result in omega (arith, s.requires.1 t, away-most s.args.v t (get_or s.args.dist.now t 0))
+add-if1 c = let s = c.before.before.before.before.before.before.before.before.before in let t = c.before.before.wide2.result in omega (arith, s.requires.1 t, away_most s.args.v t (get_or s.args.dist.now t 0))
 
 mul-wide-3 : tie.Need-overflow-mul-wide-3 invariant-loop decreases-loop
-mul-wide-3 c = let t = c.before.before.before.before.before.before in omega (arith, t.before.before.before.requires.0.from-below _ t.turn.ensures.1)
+mul-wide-3 c = let t = c.before.before.before.before.before.before in omega (arith, t.before.before.before.requires.0.from_below _ t.turn.ensures.1)
 
 element-copy-out-wide-3 : tie.Need-element-copy-out-wide-3 invariant-loop decreases-loop
-element-copy-out-wide-3 c = let t = c.before.before.before.before.before.before in omega (arith, t.before.before.before.requires.0.from-below _ t.turn.ensures.1)
+element-copy-out-wide-3 c = let t = c.before.before.before.before.before.before in omega (arith, t.before.before.before.requires.0.from_below _ t.turn.ensures.1)
 
 wide-requires-3 : tie.Need-wide-requires-3 invariant-loop decreases-loop
 wide-requires-3 c κs = omega arith
@@ -67,10 +67,10 @@ narrow-requires : tie.Need-narrow-requires invariant-loop decreases-loop
 narrow-requires c κs = omega arith
 
 mul_next : tie.Need-overflow-mul-next invariant-loop decreases-loop
-mul_next c = let t = c.before.before.before.before.before.before.before.before.before.before in omega (arith, t.before.before.before.requires.0.from-below _ t.turn.ensures.1)
+mul_next c = let t = c.before.before.before.before.before.before.before.before.before.before in omega (arith, t.before.before.before.requires.0.from_below _ t.turn.ensures.1)
 
 array-write-next : tie.Need-array-write-next invariant-loop decreases-loop
-array-write-next c = let t = c.before.before.before.before.before.before.before.before.before.before in omega (arith, t.before.before.before.requires.0.from-below _ t.turn.ensures.1)
+array-write-next c = let t = c.before.before.before.before.before.before.before.before.before.before in omega (arith, t.before.before.before.requires.0.from_below _ t.turn.ensures.1)
 
 add-i : tie.Need-overflow-add-i invariant-loop decreases-loop
 add-i c = omega arith
@@ -89,8 +89,8 @@ loop-again c =
     let to = c.before.before.before.before.before.wide2.ensures in (
       omega arith,
       ⊎_elim
-          (λ w. rw w.2 (ways-led S a.v a.dist.now l.loop.i t.turn.result _ _ l.loop.next l.loop.invariant.1 t.before.loop-test.true j.0 from to _ w.1.ensures (omega (arith, l.before.requires.0.from-below _ j.1)) (omega (arith, w.0.taken))))
-          (λ w. rw w.1 (ways-passed S a.v a.dist.now l.loop.i t.turn.result _ _ l.loop.next l.loop.invariant.1 t.before.loop-test.true j.0 from to (λ e. omega (arith, w.0.left))))
+          (λ w. rw w.2 (ways_led S a.v a.dist.now l.loop.i t.turn.result _ _ l.loop.next l.loop.invariant.1 t.before.loop-test.true j.0 from to _ w.1.ensures (omega (arith, l.before.requires.0.from_below _ j.1)) (omega (arith, w.0.taken))))
+          (λ w. rw w.1 (ways_passed S a.v a.dist.now l.loop.i t.turn.result _ _ l.loop.next l.loop.invariant.1 t.before.loop-test.true j.0 from to (λ e. omega (arith, w.0.left))))
           c.if1.branch,
     )
 

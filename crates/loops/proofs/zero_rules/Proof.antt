@@ -5,7 +5,7 @@ use Prim.Native.Nat.{ℕ, ◌-◌, ◌≤◌}
 use mathlib.Core.Path.{◌≡◌}
 use lib.ListN.{length, get_or, length-set}
 use mathlib.Core.Logic.{⊎_elim}
-use Rattle.loops.specs.Listed.{Listed, listed-none, listed-add, listed-past, listed-skip}
+use Rattle.loops.specs.Listed.{Listed, listed_none, listed_add, listed_past, listed_skip}
 use native.Mathlib.Omega.{arith}
 use borrow.Author.Rules.{rules}
 use Rattle.loops.proofs.zero_rules.Statement.{statement}
@@ -18,7 +18,7 @@ abbrev decreases-loop : tie.decreases-loop
 decreases-loop offset m rules₀ len₀ r₀ rules len r = m - r
 
 loop-holds : tie.Need-loop-init invariant-loop decreases-loop
-loop-holds c = (omega arith, search rules, listed-none _ _)
+loop-holds c = (omega arith, search rules, listed_none _ _)
 
 mul_wide : tie.Need-overflow-mul-wide invariant-loop decreases-loop
 mul_wide c = omega arith
@@ -56,8 +56,8 @@ loop-again c =
       omega arith,
       simp length-set l.loop.invariant.1,
       ⊎_elim
-          (λ w. rw (w.1, n) (listed-add A l.loop.rules l.loop.len l.loop.r l.loop.invariant.2 (omega (arith, w.0.taken)) (omega (arith, l.loop.invariant.2.few))))
-          (λ w. rw (w.1, n) (listed-skip A _ l.loop.len l.loop.r (listed-past A l.loop.rules l.loop.len l.loop.r l.loop.r l.loop.invariant.2) (λ e. omega (arith, w.0.left))))
+          (λ w. rw (w.1, n) (listed_add A l.loop.rules l.loop.len l.loop.r l.loop.invariant.2 (omega (arith, w.0.taken)) (omega (arith, l.loop.invariant.2.few))))
+          (λ w. rw (w.1, n) (listed_skip A _ l.loop.len l.loop.r (listed_past A l.loop.rules l.loop.len l.loop.r l.loop.r l.loop.invariant.2) (λ e. omega (arith, w.0.left))))
           c.if1.branch,
     )
 

@@ -6,7 +6,7 @@ use mathlib.Core.Path.{◌≡◌}
 use mathlib.Core.Logic.{⊎_elim}
 use lib.ListN.{length, length-set}
 use Rattle.peel.specs.Plain.{plain}
-use Rattle.peel.specs.Peeling.{Tallied, tallied-none, tallied-add, tallied-skip, tallied-most}
+use Rattle.peel.specs.Peeling.{Tallied, tallied_none, tallied_add, tallied_skip, tallied_most}
 use native.Mathlib.Omega.{arith}
 use borrow.Author.Rules.{rules}
 use Rattle.peel.proofs.count_entering.Statement.{statement}
@@ -21,7 +21,7 @@ decreases-loop from to len n alive entering₀ r₀ entering r = len - r
 loop-holds : tie.Need-loop-init invariant-loop decreases-loop
 loop-holds c =
     let a = c.args in
-    (omega arith, search rules, tallied-none (plain a.from.now a.to.now a.len) a.alive.now)
+    (omega arith, search rules, tallied_none (plain a.from.now a.to.now a.len) a.alive.now)
 
 mul_wide : tie.Need-overflow-mul-wide invariant-loop decreases-loop
 mul_wide c = omega arith
@@ -46,22 +46,22 @@ remains-requires c κs =
     let l = c.before.before.before.before.before in
     let s = l.before in
     let f = s.requires.fits l.loop.r c.before.before.before.before.loop-test.true in
-    (omega (arith, f, c.before.before.wide.ensures, s.requires.few-transitions), omega (arith, f, c.wide2.ensures, s.requires.few-transitions))
+    (omega (arith, f, c.before.before.wide.ensures, s.requires.few_transitions), omega (arith, f, c.wide2.ensures, s.requires.few_transitions))
 
 mul-entering : tie.Need-overflow-mul-entering invariant-loop decreases-loop
-mul-entering c = omega (arith, c.before.before.wide2.ensures, c.before.before.before.before.before.before.before.before.requires.few-transitions, c.before.before.before.before.before.before.before.before.requires.fits c.before.before.before.before.before.before.before.loop.r c.before.before.before.before.before.before.loop-test.true)
+mul-entering c = omega (arith, c.before.before.wide2.ensures, c.before.before.before.before.before.before.before.before.requires.few_transitions, c.before.before.before.before.before.before.before.before.requires.fits c.before.before.before.before.before.before.before.loop.r c.before.before.before.before.before.before.loop-test.true)
 
 array-read-entering : tie.Need-array-read-entering invariant-loop decreases-loop
-array-read-entering c = omega (arith, c.before.before.wide2.ensures, c.before.before.before.before.before.before.before.before.requires.few-transitions, c.before.before.before.before.before.before.before.before.requires.fits c.before.before.before.before.before.before.before.loop.r c.before.before.before.before.before.before.loop-test.true)
+array-read-entering c = omega (arith, c.before.before.wide2.ensures, c.before.before.before.before.before.before.before.before.requires.few_transitions, c.before.before.before.before.before.before.before.before.requires.fits c.before.before.before.before.before.before.before.loop.r c.before.before.before.before.before.before.loop-test.true)
 
 add-entering : tie.Need-overflow-add-entering invariant-loop decreases-loop
 add-entering c =
     let l = c.before.before.before.before.before.before.before in
     let a = l.before.args in
-    omega (arith, l.before.requires.few-rules, tallied-most (plain a.from.now a.to.now a.len) a.alive.now 0 0 l.loop.r l.loop.entering l.loop.invariant.2 c.before.before.wide2.result)
+    omega (arith, l.before.requires.few_rules, tallied_most (plain a.from.now a.to.now a.len) a.alive.now 0 0 l.loop.r l.loop.entering l.loop.invariant.2 c.before.before.wide2.result)
 
 array-write-entering : tie.Need-array-write-entering invariant-loop decreases-loop
-array-write-entering c = omega (arith, c.before.before.wide2.ensures, c.before.before.before.before.before.before.before.before.requires.few-transitions, c.before.before.before.before.before.before.before.before.requires.fits c.before.before.before.before.before.before.before.loop.r c.before.before.before.before.before.before.loop-test.true)
+array-write-entering c = omega (arith, c.before.before.wide2.ensures, c.before.before.before.before.before.before.before.before.requires.few_transitions, c.before.before.before.before.before.before.before.before.requires.fits c.before.before.before.before.before.before.before.loop.r c.before.before.before.before.before.before.loop-test.true)
 
 add_r : tie.Need-overflow-add-r invariant-loop decreases-loop
 add_r c = omega arith
@@ -81,8 +81,8 @@ loop-again c =
       omega arith,
       ⊎_elim (λ w. rw w.1 (simp length-set l.loop.invariant.1)) (λ w. rw w.1 l.loop.invariant.1) c.if1.branch,
       ⊎_elim
-          (λ w. rw w.1 (tallied-add S a.alive.now l.loop.r l.loop.entering l.loop.invariant.2 _ _ l.loop.invariant.1 (omega (arith, to, s.requires.few-transitions, s.requires.fits l.loop.r w2.before.before.before.before.loop-test.true)) from to (c.before.remains.ensures.0 w.0.taken)))
-          (λ w. rw w.1 (tallied-skip S a.alive.now l.loop.r l.loop.entering l.loop.invariant.2 _ _ from to (c.before.remains.ensures.1 w.0.left)))
+          (λ w. rw w.1 (tallied_add S a.alive.now l.loop.r l.loop.entering l.loop.invariant.2 _ _ l.loop.invariant.1 (omega (arith, to, s.requires.few_transitions, s.requires.fits l.loop.r w2.before.before.before.before.loop-test.true)) from to (c.before.remains.ensures.0 w.0.taken)))
+          (λ w. rw w.1 (tallied_skip S a.alive.now l.loop.r l.loop.entering l.loop.invariant.2 _ _ from to (c.before.remains.ensures.1 w.0.left)))
           c.if1.branch,
     )
 

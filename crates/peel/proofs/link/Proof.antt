@@ -2,7 +2,7 @@
 -- The loop's invariant: the rules passed are linked. The measure is the number of rules left.
 -- Assumes nothing.
 use Prim.Native.Nat.{◌-◌, ◌≤◌}
-use Rattle.peel.specs.Linked.{Linked, NoneAlike, linked-none, linked-last}
+use Rattle.peel.specs.Linked.{Linked, NoneAlike, linked_none, linked_last}
 use mathlib.Core.Path.{◌≡◌, refl}
 use native.Mathlib.Omega.{arith}
 use Rattle.peel.proofs.link.Statement.{statement}
@@ -15,7 +15,7 @@ abbrev decreases-loop : tie.decreases-loop
 decreases-loop column len head₀ next₀ r₀ head next r = len - r
 
 loop-holds : tie.Need-loop-init invariant-loop decreases-loop
-loop-holds c = (omega arith, rw (c.requires.2, c.requires.3) (linked-none c.args.column.now))
+loop-holds c = (omega arith, rw (c.requires.2, c.requires.3) (linked_none c.args.column.now))
 
 mul_wide : tie.Need-overflow-mul-wide invariant-loop decreases-loop
 mul_wide c = omega arith
@@ -59,7 +59,7 @@ loop-again c =
     let l = w.before.before.before in
     let s = l.before in (
       omega arith,
-      linked-last s.args.column.now l.loop.r l.loop.head l.loop.next l.loop.invariant.1 (omega arith) w.wide.result _ c.narrow.result w.wide.ensures (omega (arith, w.wide.ensures, s.requires.1 l.loop.r w.before.before.loop-test.true)) c.narrow.ensures refl,
+      linked_last s.args.column.now l.loop.r l.loop.head l.loop.next l.loop.invariant.1 (omega arith) w.wide.result _ c.narrow.result w.wide.ensures (omega (arith, w.wide.ensures, s.requires.1 l.loop.r w.before.before.loop-test.true)) c.narrow.ensures refl,
     )
 
 returns : tie.Need-returns invariant-loop decreases-loop

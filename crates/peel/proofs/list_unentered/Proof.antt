@@ -4,8 +4,8 @@
 use Prim.Native.Nat.{◌-◌, ◌≤◌, ◌<◌}
 use mathlib.Core.Path.{◌≡◌}
 use mathlib.Core.Logic.{⊎_elim}
-use Rattle.peel.specs.Linked.{Row, row-set}
-use Rattle.peel.specs.Peeling.{Waiting, waiting_none, waiting-skip, waiting-push}
+use Rattle.peel.specs.Linked.{Row, row_set}
+use Rattle.peel.specs.Peeling.{Waiting, waiting_none, waiting_skip, waiting_push}
 use native.Mathlib.Omega.{arith}
 use Rattle.peel.proofs.list_unentered.Statement.{statement}
 use Rattle.peel.proofs.list_unentered.Tie as tie
@@ -56,14 +56,14 @@ loop-again c =
     let room : l.loop.count < 256 = omega (arith, l.loop.invariant.2.few) in (
       omega arith,
       ⊎_elim
-          (λ w. rw (w.2, w.1.ensures) (row-set a.n l.loop.order l.loop.count l.loop.v l.loop.invariant.1 room (omega arith)))
+          (λ w. rw (w.2, w.1.ensures) (row_set a.n l.loop.order l.loop.count l.loop.v l.loop.invariant.1 room (omega arith)))
           (λ w. rw w.1 l.loop.invariant.1)
           c.if1.branch,
       ⊎_elim
           (λ w.
           let t = c.before.unentered.ensures.0 w.0.taken in
-          rw (w.2, w.3, w.1.ensures) (waiting-push a.alive.now a.entering.now l.loop.order l.loop.v l.loop.count l.loop.invariant.2 l.loop.invariant.1.room room t.0 t.1))
-          (λ w. rw (w.1, w.2) (waiting-skip a.alive.now a.entering.now l.loop.order l.loop.v l.loop.count l.loop.invariant.2 (c.before.unentered.ensures.1 w.0.left)))
+          rw (w.2, w.3, w.1.ensures) (waiting_push a.alive.now a.entering.now l.loop.order l.loop.v l.loop.count l.loop.invariant.2 l.loop.invariant.1.room room t.0 t.1))
+          (λ w. rw (w.1, w.2) (waiting_skip a.alive.now a.entering.now l.loop.order l.loop.v l.loop.count l.loop.invariant.2 (c.before.unentered.ensures.1 w.0.left)))
           c.if1.branch,
     )
 

@@ -5,12 +5,12 @@ use mathlib.Core.Path.{◌≡◌}
 use lib.ListN.{length, get_or, length-set, length-replicate}
 use native.Mathlib.Omega.{arith}
 use Rattle.rates.specs.Rate.{RateOf}
-use Rattle.rates_text.specs.Rates.{noRate, rates-next}
+use Rattle.rates_text.specs.Rates.{no_rate, rates_next}
 use Rattle.rates_text.proofs.all_rates.Statement.{statement}
 use Rattle.rates_text.proofs.all_rates.Tie as tie
 
 abbrev invariant-loop : tie.invariant-loop
-invariant-loop t all₀ v₀ all v = (v ≤ 256) × (length all ≡ 256) × ((w : ℕ) → w < v → RateOf t w (get_or all w noRate))
+invariant-loop t all₀ v₀ all v = (v ≤ 256) × (length all ≡ 256) × ((w : ℕ) → w < v → RateOf t w (get_or all w no_rate))
 
 abbrev decreases-loop : tie.decreases-loop
 decreases-loop t all₀ v₀ all v = 256 - v
@@ -39,7 +39,7 @@ loop-less c = omega arith
 loop-again : tie.Need-loop-preserved invariant-loop decreases-loop
 loop-again c =
     let l = c.before.before in
-    (omega arith, simp length-set l.loop.invariant.1, rates-next _ l.loop.all l.loop.v _ l.loop.invariant.1 (omega arith) l.loop.invariant.2 c.rate.ensures)
+    (omega arith, simp length-set l.loop.invariant.1, rates_next _ l.loop.all l.loop.v _ l.loop.invariant.1 (omega arith) l.loop.invariant.2 c.rate.ensures)
 
 returns : tie.Need-returns invariant-loop decreases-loop
 returns c = let l = c.before in (l.loop.invariant.1, λ v b. l.loop.invariant.2 v (omega arith))

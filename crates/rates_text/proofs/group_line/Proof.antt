@@ -1,7 +1,7 @@
 -- `rates_text::group_line` meets its contract: the line is put into a fresh buffer. No loop. Assumes nothing.
 use native.Mathlib.Omega.{arith}
 use Rattle.words.specs.Puts.{puts_then}
-use Rattle.words.specs.Held.{holds-put}
+use Rattle.words.specs.Held.{holds_put}
 use borrow.Author.Rules.{rules}
 use Rattle.rates_text.proofs.group_line.Statement.{statement}
 use Rattle.rates_text.proofs.group_line.Tie as tie
@@ -45,7 +45,7 @@ returns c =
     let of = c.before.before.before.before.before.before.before.word.ensures in
     let members = c.before.before.before.before.members.ensures in
     let end = c.before.byte.ensures in
-    holds-put _ _ _ (puts_then words.0 (puts_then of (puts_then members.0 end))) (omega (arith, words.1, of.place, members.1, end.place))
+    holds_put _ _ _ (puts_then words.0 (puts_then of (puts_then members.0 end))) (omega (arith, words.1, of.place, members.1, end.place))
 
 pub group-line-spec : {M : Type 1} → statement M
 group-line-spec =

@@ -1,7 +1,7 @@
 -- `rates_text::rate` meets its contract: the line is put into a fresh buffer. No loop. Assumes nothing.
 use native.Mathlib.Omega.{arith}
 use Rattle.words.specs.Puts.{puts_then}
-use Rattle.words.specs.Held.{holds-put}
+use Rattle.words.specs.Held.{holds_put}
 use borrow.Author.Rules.{rules}
 use Rattle.rates_text.proofs.rate.Statement.{statement}
 use Rattle.rates_text.proofs.rate.Tie as tie
@@ -27,8 +27,8 @@ returns c =
     let end = c.before.byte.ensures in
     record {
       rate = c.before.before.before.before.before.before.rate-in.result;
-      is-rate = c.before.before.before.before.before.before.rate-in.ensures;
-      is_held = holds-put _ _ _ (puts_then words.0 end) (omega (arith, words.1, end.place));
+      is_rate = c.before.before.before.before.before.before.rate-in.ensures;
+      is_held = holds_put _ _ _ (puts_then words.0 end) (omega (arith, words.1, end.place));
     }
 
 pub rate-spec : {M : Type 1} → statement M

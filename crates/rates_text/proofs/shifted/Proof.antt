@@ -2,7 +2,7 @@
 use Prim.Native.Nat.{◌+◌, ◌*◌, ◌-◌}
 use mathlib.Core.Path.{◌≡◌, ap, ◌∙◌}
 use native.Mathlib.Omega.{arith}
-use Rattle.rates_text.specs.Rates.{more_stays, more-adds}
+use Rattle.rates_text.specs.Rates.{more_stays, more_adds}
 use borrow.Author.Rules.{rules}
 use Rattle.rates_text.proofs.shifted.Statement.{statement}
 use Rattle.rates_text.proofs.shifted.Tie as tie
@@ -20,7 +20,7 @@ returns-2 : tie.Need-returns-2
 returns-2 c =
     let g = c.before.before.before.args in
     let low : g.v * 10 ≡ g.v * 10 + (g.digit - 48) = omega (arith, c.before.before.digit_value.ensures, c.if2.true) in
-    low ∙ more-adds g.v g.digit c.before.if1.false
+    low ∙ more_adds g.v g.digit c.before.if1.false
 
 mul-result-2 : tie.Need-overflow-mul-result-2
 mul-result-2 c = search rules
@@ -31,7 +31,7 @@ add-result c = search rules
 returns-3 : tie.Need-returns-3
 returns-3 c =
     let g = c.before.before.before.args in
-    ap (λ d. g.v * 10 + (d - 48)) c.before.before.digit_value.ensures.0 ∙ more-adds g.v g.digit c.before.if1.false
+    ap (λ d. g.v * 10 + (d - 48)) c.before.before.digit_value.ensures.0 ∙ more_adds g.v g.digit c.before.if1.false
 
 pub shifted-spec : {M : Type 1} → statement M
 shifted-spec =

@@ -4,12 +4,12 @@ use Prim.Native.Nat.{◌-◌, ◌≤◌}
 use mathlib.Core.Path.{◌≡◌, subst}
 use lib.ListN.{length}
 use native.Mathlib.Omega.{arith}
-use Rattle.rates_text.specs.Rates.{toldTo, told_none, told-next}
+use Rattle.rates_text.specs.Rates.{told_to, told_none, told_next}
 use Rattle.rates_text.proofs.transition.Statement.{statement}
 use Rattle.rates_text.proofs.transition.Tie as tie
 
 abbrev invariant-loop : tie.invariant-loop
-invariant-loop digits v₀ i₀ v i = (i ≤ length digits) × (v ≡ toldTo digits i)
+invariant-loop digits v₀ i₀ v i = (i ≤ length digits) × (v ≡ told_to digits i)
 
 abbrev decreases-loop : tie.decreases-loop
 decreases-loop digits v₀ i₀ v i = length digits - i
@@ -33,14 +33,14 @@ loop-again : tie.Need-loop-preserved invariant-loop decreases-loop
 loop-again c =
     let l = c.before.before.before in
     let s = l.before.before.args.digits.now in
-    (omega arith, told-next s l.loop.i l.loop.v _ l.loop.invariant.1 c.shifted.ensures)
+    (omega arith, told_next s l.loop.i l.loop.v _ l.loop.invariant.1 c.shifted.ensures)
 
 returns : tie.Need-returns invariant-loop decreases-loop
 returns c =
     let l = c.before in
     let s = l.before.before.args.digits.now in
     let e : l.loop.i ≡ length s = omega arith in
-    subst (λ i. l.loop.v ≡ toldTo s i) e l.loop.invariant.1
+    subst (λ i. l.loop.v ≡ told_to s i) e l.loop.invariant.1
 
 pub transition-spec : {M : Type 1} → statement M
 transition-spec =

@@ -1,6 +1,6 @@
 -- `report::main` is safe and ends: the text is the first part of what `text::report` hands back. Assumes nothing of what is read.
 use borrow.Author.Rules.{rules}
-use Rattle.text.specs.Text.{report-part}
+use Rattle.text.specs.Text.{report_part}
 use Rattle.report.proofs.main.Statement.{statement}
 use Rattle.report.proofs.main.Tie as tie
 
@@ -20,10 +20,10 @@ report-requires : tie.Need-report-requires
 report-requires c κs = search rules
 
 array-share-prefix-bytes : tie.Need-array-share-prefix-bytes
-array-share-prefix-bytes c = (report-part _ _ c.before.report.ensures).0
+array-share-prefix-bytes c = (report_part _ _ c.before.report.ensures).0
 
 slice-aggregate-write-all : tie.Need-slice-aggregate-write-all
-slice-aggregate-write-all c = (report-part _ _ c.before.before.report.ensures).1
+slice-aggregate-write-all c = (report_part _ _ c.before.before.report.ensures).1
 
 write-all-requires : tie.Need-write-all-requires
 write-all-requires c κs = search rules

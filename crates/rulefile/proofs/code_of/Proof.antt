@@ -1,7 +1,7 @@
 -- `rulefile::code_of` meets its contract. No loop. Assumes nothing.
 use Prim.Native.Nat.{ℕ, ◌+◌}
 use mathlib.Core.Path.{ap, sym, ◌∙◌}
-use Rattle.rulefile.specs.File.{delayCode}
+use Rattle.rulefile.specs.File.{delay_code}
 use borrow.Author.Rules.{rules}
 use Rattle.rulefile.proofs.code_of.Statement.{statement}
 use Rattle.rulefile.proofs.code_of.Tie as tie
@@ -22,7 +22,7 @@ returns : tie.Need-returns
 returns c = search rules
 
 returns-2 : tie.Need-returns-2
-returns-2 c = ap (λ (n : ℕ). n + 1) c.wide-u32.ensures.0 ∙ sym (ap delayCode c.before.before.delay.given.1)
+returns-2 c = ap (λ (n : ℕ). n + 1) c.wide-u32.ensures.0 ∙ sym (ap delay_code c.before.before.delay.given.1)
 
 pub code-of-spec : {M : Type 1} → statement M
 code-of-spec =

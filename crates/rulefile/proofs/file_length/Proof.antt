@@ -4,16 +4,16 @@ use Prim.Native.Nat.{◌+◌, ◌-◌, ◌≤◌}
 use mathlib.Core.Path.{◌≡◌, refl, ap, ◌∙◌}
 use lib.ListN.{length}
 use native.Mathlib.Omega.{arith}
-use Rattle.sevens.specs.Sevens.{codeLength}
-use Rattle.table.specs.Limits.{maxM}
-use Rattle.rulefile.specs.File.{rulesBytes, fileOf}
-use Rattle.rulefile.specs.Length.{file-length}
-use Rattle.rulefile.specs.Steps.{count_head, count_turn, rules-over}
+use Rattle.sevens.specs.Sevens.{code_length_of}
+use Rattle.table.specs.Limits.{max_m}
+use Rattle.rulefile.specs.File.{rules_bytes, file_of}
+use Rattle.rulefile.specs.Length.{file_length_lem}
+use Rattle.rulefile.specs.Steps.{count_head, count_turn, rules_over}
 use Rattle.rulefile.proofs.file_length.Statement.{statement}
 use Rattle.rulefile.proofs.file_length.Tie as tie
 
 abbrev invariant-loop : tie.invariant-loop
-invariant-loop t m count₀ r₀ count r = (r ≤ m) × (m ≤ maxM) × (m ≡ t.m) × (count + length (rulesBytes t r (m - r)) ≡ length (fileOf t))
+invariant-loop t m count₀ r₀ count r = (r ≤ m) × (m ≤ max_m) × (m ≡ t.m) × (count + length (rules_bytes t r (m - r)) ≡ length (file_of t))
 
 abbrev decreases-loop : tie.decreases-loop
 decreases-loop t m count₀ r₀ count r = m - r
@@ -37,10 +37,10 @@ loop-holds : tie.Need-loop-init invariant-loop decreases-loop
 loop-holds c =
     let s = c.before.before.before.before in (
       omega arith,
-      s.requires.m-high,
+      s.requires.m_high,
       refl,
-      count_head s.args.t1 _ _ (c.before.before.length-of.ensures.0 ∙ ap codeLength c.before.before.before.wide-usize.ensures)
-          (c.length-of2.ensures.0 ∙ ap codeLength c.before.wide-usize2.ensures),
+      count_head s.args.t1 _ _ (c.before.before.length-of.ensures.0 ∙ ap code_length_of c.before.before.before.wide-usize.ensures)
+          (c.length-of2.ensures.0 ∙ ap code_length_of c.before.wide-usize2.ensures),
     )
 
 mul-rule : tie.Need-overflow-mul-rule invariant-loop decreases-loop
@@ -57,8 +57,8 @@ add-count-2 c =
     let l = c.before.before.before.loop in
     let s = c.before.before.before.before.before.before.before.before in
     let t = s.args.t1 in
-    let turn = count_turn t l.r (t.m - l.r) (t.m - (l.r + 1)) _ l.count _ (omega arith) c.rule-length.ensures l.invariant.3 in
-    omega (arith, file-length t s.requires)
+    let turn = count_turn t l.r (t.m - l.r) (t.m - (l.r + 1)) _ l.count _ (omega arith) c.rule_length_lem.ensures l.invariant.3 in
+    omega (arith, file_length_lem t s.requires)
 
 add_r : tie.Need-overflow-add-r invariant-loop decreases-loop
 add_r c = omega arith
@@ -70,13 +70,13 @@ loop-again : tie.Need-loop-preserved invariant-loop decreases-loop
 loop-again c =
     let l = c.before.before.before.loop in
     let t = c.before.before.before.before.before.before.before.before.args.t1 in
-    (omega arith, omega arith, refl, count_turn t l.r (t.m - l.r) (t.m - (l.r + 1)) _ l.count _ (omega arith) c.rule-length.ensures l.invariant.3)
+    (omega arith, omega arith, refl, count_turn t l.r (t.m - l.r) (t.m - (l.r + 1)) _ l.count _ (omega arith) c.rule_length_lem.ensures l.invariant.3)
 
 returns : tie.Need-returns invariant-loop decreases-loop
 returns c =
     let l = c.before.loop in
     let t = c.before.before.before.before.before.before.args.t1 in
-    omega (arith, ap length (rules-over t l.r (t.m - l.r) (omega arith)), l.invariant.3)
+    omega (arith, ap length (rules_over t l.r (t.m - l.r) (omega arith)), l.invariant.3)
 
 pub file-length-spec : {M : Type 1} → statement M
 file-length-spec =

@@ -1,7 +1,7 @@
 -- `rulefile::put_file` meets its contract: n, m, and the rules. No loop. Assumes nothing.
 use mathlib.Core.Path.{sym, ◌∙◌}
 use native.Mathlib.Omega.{arith}
-use Rattle.rulefile.specs.Steps.{put-fits, put-head}
+use Rattle.rulefile.specs.Steps.{put_fits, put_head}
 use borrow.Author.Rules.{rules}
 use Rattle.rulefile.proofs.put_file.Statement.{statement}
 use Rattle.rulefile.proofs.put_file.Tie as tie
@@ -22,8 +22,8 @@ add-b : tie.Need-overflow-add-b
 add-b c =
     let c2 = c.before.before in
     let c1 = c2.before.before.before.before.before in
-    let f1 = put-fits _ _ _ _ _ c1.put.ensures (omega arith) in
-    let f2 = put-fits _ _ _ _ _ c2.put2.ensures (omega arith) in
+    let f1 = put_fits _ _ _ _ _ c1.put.ensures (omega arith) in
+    let f2 = put_fits _ _ _ _ _ c2.put2.ensures (omega arith) in
     omega arith
 
 put-rules-requires : tie.Need-put-rules-requires
@@ -31,7 +31,7 @@ put-rules-requires c κs =
     let c2 = c.before.before.before in
     let c1 = c2.before.before.before.before.before in
     let s = c1.before.before.before.before in
-    (s.requires.0, (put-head _ _ _ _ _ _ _ _ c1.before.before.wide-usize.ensures c2.before.before.wide-usize2.ensures s.requires.1 c1.put.ensures c2.put2.ensures).1)
+    (s.requires.0, (put_head _ _ _ _ _ _ _ _ c1.before.before.wide-usize.ensures c2.before.before.wide-usize2.ensures s.requires.1 c1.put.ensures c2.put2.ensures).1)
 
 same_length : tie.Need-same-length
 same_length c = search rules
@@ -42,7 +42,7 @@ returns c =
     let c2 = c.before.before.before.before.before.before in
     let c1 = c2.before.before.before.before.before in
     let s = c1.before.before.before.before in
-    x.ensures ∙ sym (put-head _ _ _ _ _ _ _ _ c1.before.before.wide-usize.ensures c2.before.before.wide-usize2.ensures s.requires.1 c1.put.ensures c2.put2.ensures).0
+    x.ensures ∙ sym (put_head _ _ _ _ _ _ _ _ c1.before.before.wide-usize.ensures c2.before.before.wide-usize2.ensures s.requires.1 c1.put.ensures c2.put2.ensures).0
 
 pub put-file-spec : {M : Type 1} → statement M
 put-file-spec =

@@ -1,6 +1,6 @@
 -- `rulefile::put_rule` meets its contract: four numbers one after the other. No loop. Assumes nothing.
 use native.Mathlib.Omega.{arith}
-use Rattle.rulefile.specs.Steps.{put-fits, put-rule}
+use Rattle.rulefile.specs.Steps.{put_fits, put_rule_lem}
 use borrow.Author.Rules.{rules}
 use Rattle.rulefile.proofs.put_rule.Statement.{statement}
 use Rattle.rulefile.proofs.put_rule.Tie as tie
@@ -14,7 +14,7 @@ put-requires c κs = search rules
 add_a : tie.Need-overflow-add-a
 add_a c =
     let c1 = c.before.before in
-    let f1 = put-fits _ _ _ _ _ c1.put.ensures (omega arith) in
+    let f1 = put_fits _ _ _ _ _ c1.put.ensures (omega arith) in
     omega arith
 
 wide-u16-requires-2 : tie.Need-wide-u16-requires-2
@@ -27,8 +27,8 @@ add-b : tie.Need-overflow-add-b
 add-b c =
     let c2 = c.before.before in
     let c1 = c2.before.before.before.before.before in
-    let f1 = put-fits _ _ _ _ _ c1.put.ensures (omega arith) in
-    let f2 = put-fits _ _ _ _ _ c2.put2.ensures (omega arith) in
+    let f1 = put_fits _ _ _ _ _ c1.put.ensures (omega arith) in
+    let f2 = put_fits _ _ _ _ _ c2.put2.ensures (omega arith) in
     omega arith
 
 wide-u16-requires-3 : tie.Need-wide-u16-requires-3
@@ -42,9 +42,9 @@ add-c c =
     let c3 = c.before.before in
     let c2 = c3.before.before.before.before.before in
     let c1 = c2.before.before.before.before.before in
-    let f1 = put-fits _ _ _ _ _ c1.put.ensures (omega arith) in
-    let f2 = put-fits _ _ _ _ _ c2.put2.ensures (omega arith) in
-    let f3 = put-fits _ _ _ _ _ c3.put3.ensures (omega arith) in
+    let f1 = put_fits _ _ _ _ _ c1.put.ensures (omega arith) in
+    let f2 = put_fits _ _ _ _ _ c2.put2.ensures (omega arith) in
+    let f3 = put_fits _ _ _ _ _ c3.put3.ensures (omega arith) in
     omega arith
 
 code-of-requires : tie.Need-code-of-requires
@@ -59,10 +59,10 @@ add-result c =
     let c3 = c4.before.before.before.before.before in
     let c2 = c3.before.before.before.before.before in
     let c1 = c2.before.before.before.before.before in
-    let f1 = put-fits _ _ _ _ _ c1.put.ensures (omega arith) in
-    let f2 = put-fits _ _ _ _ _ c2.put2.ensures (omega arith) in
-    let f3 = put-fits _ _ _ _ _ c3.put3.ensures (omega arith) in
-    let f4 = put-fits _ _ _ _ _ c4.put4.ensures (omega arith) in
+    let f1 = put_fits _ _ _ _ _ c1.put.ensures (omega arith) in
+    let f2 = put_fits _ _ _ _ _ c2.put2.ensures (omega arith) in
+    let f3 = put_fits _ _ _ _ _ c3.put3.ensures (omega arith) in
+    let f4 = put_fits _ _ _ _ _ c4.put4.ensures (omega arith) in
     omega arith
 
 same_length : tie.Need-same-length
@@ -74,7 +74,7 @@ returns c =
     let c3 = c4.before.before.before.before.before in
     let c2 = c3.before.before.before.before.before in
     let c1 = c2.before.before.before.before.before in
-    (put-rule _ _ _ _ _ _ _ _ _ _ _ _ _ _ _ c1.before.before.before.before.requires
+    (put_rule_lem _ _ _ _ _ _ _ _ _ _ _ _ _ _ _ c1.before.before.before.before.requires
     (c1.before.before.wide-u16.ensures, c2.before.before.wide-u162.ensures, c3.before.before.wide-u163.ensures, c4.before.before.code_of_lem.ensures)
     c1.put.ensures c2.put2.ensures c3.put3.ensures c4.put4.ensures)
 

@@ -3,8 +3,8 @@ use Prim.Native.Nat.{ℕ}
 use mathlib.Core.Path.{ap, sym, ◌∙◌}
 use native.Mathlib.Omega.{arith}
 use Rattle.table.specs.Form.{sized}
-use Rattle.rulefile.specs.File.{read_of, rulesFrom}
-use Rattle.rulefile.specs.Steps.{then_next, then-stop, num-range}
+use Rattle.rulefile.specs.File.{read_of, rules_from_of}
+use Rattle.rulefile.specs.Steps.{then_next, then_stop, num_range}
 use borrow.Author.Rules.{rules}
 use Rattle.rulefile.proofs.read.Statement.{statement}
 use Rattle.rulefile.proofs.read.Tie as tie
@@ -25,7 +25,7 @@ returns : tie.Need-returns
 unfolding read_of
 returns c =
     let c1 = c.before.before.before in
-    c.file-bad.ensures ∙ sym (then-stop _ _ _ _ c1.number_at.ensures.0 c.before.if1.true)
+    c.file-bad.ensures ∙ sym (then_stop _ _ _ _ c1.number_at.ensures.0 c.before.if1.true)
 
 cast-number-at-3 : tie.Need-overflow-cast-number-at-3
 cast-number-at-3 c = search rules
@@ -42,7 +42,7 @@ returns-2 c =
     let c2 = c.before.before.before in
     let c1 = c2.before.before.before in
     c.file-bad2.ensures
-    ∙ sym (then_next _ _ _ _ c1.number_at.ensures.0 c2.before.if1.false ∙ then-stop _ _ _ _ c2.number-at2.ensures.0 c.before.if2.true)
+    ∙ sym (then_next _ _ _ _ c1.number_at.ensures.0 c2.before.if1.false ∙ then_stop _ _ _ _ c2.number-at2.ensures.0 c.before.if2.true)
 
 wide-requires : tie.Need-wide-requires
 wide-requires c κs = search rules
@@ -51,8 +51,8 @@ rules-from-requires : tie.Need-rules-from-requires
 rules-from-requires c κs =
     let c2 = c.before.before.before in
     let c1 = c2.before.before.before in
-    let n = num-range _ _ _ _ _ c1.number_at.ensures.0 c2.before.if1.false in
-    let m = num-range _ _ _ _ _ c2.number-at2.ensures.0 c.before.if2.false in
+    let n = num_range _ _ _ _ _ c1.number_at.ensures.0 c2.before.if1.false in
+    let m = num_range _ _ _ _ _ c2.number-at2.ensures.0 c.before.if2.false in
     (c2.number-at2.ensures.1, n.0, n.1, omega (arith, m))
 
 returns-3 : tie.Need-returns-3
@@ -64,7 +64,7 @@ returns-3 c =
     let n = c1.number_at.result.value in
     let m = c2.number-at2.result in
     c.rules-from.ensures
-    ∙ ap (λ (k : ℕ). rulesFrom c1.before.before.args.bytes.now n (sized n k) m.next 0 k) c3.wide.ensures
+    ∙ ap (λ (k : ℕ). rules_from_of c1.before.before.args.bytes.now n (sized n k) m.next 0 k) c3.wide.ensures
     ∙ sym (then_next _ _ _ _ c1.number_at.ensures.0 c2.before.if1.false ∙ then_next _ _ _ _ c2.number-at2.ensures.0 c3.before.if2.false)
 
 pub read_spec : {M : Type 1} → statement M

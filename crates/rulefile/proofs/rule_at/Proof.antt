@@ -2,8 +2,8 @@
 use mathlib.Core.Path.{ap, sym, ◌∙◌}
 use native.Mathlib.Omega.{arith}
 use Rattle.rulefile.specs.declared.RuleRead.{RuleRead}
-use Rattle.rulefile.specs.File.{ruleAt}
-use Rattle.rulefile.specs.Steps.{then_next, then-stop, num-range, rule-same}
+use Rattle.rulefile.specs.File.{rule_at_of}
+use Rattle.rulefile.specs.Steps.{then_next, then_stop, num_range, rule_same}
 use borrow.Author.Rules.{rules}
 use Rattle.rulefile.proofs.rule_at.Statement.{statement}
 use Rattle.rulefile.proofs.rule_at.Tie as tie
@@ -18,11 +18,11 @@ rule-bad-requires : tie.Need-rule-bad-requires
 rule-bad-requires c κs = search rules
 
 returns : tie.Need-returns
-unfolding ruleAt
+unfolding rule_at_of
 returns c =
     let c1 = c.before.before.before in (
       c.rule-bad.ensures ∙ sym (
-          then-stop _ _ _ _ c1.number_at.ensures.0 c.before.if1.true),
+          then_stop _ _ _ _ c1.number_at.ensures.0 c.before.if1.true),
       omega (arith, ap (λ (x : RuleRead). x.next) c.rule-bad.ensures),
     )
 
@@ -36,13 +36,13 @@ rule-bad-requires-2 : tie.Need-rule-bad-requires-2
 rule-bad-requires-2 c κs = search rules
 
 returns-2 : tie.Need-returns-2
-unfolding ruleAt
+unfolding rule_at_of
 returns-2 c =
     let c2 = c.before.before.before in
     let c1 = c2.before.before.before in (
       c.rule-bad2.ensures ∙ sym (
           then_next _ _ _ _ c1.number_at.ensures.0 c2.before.if1.false
-          ∙ then-stop _ _ _ _ c2.number-at2.ensures.0 c.before.if2.true),
+          ∙ then_stop _ _ _ _ c2.number-at2.ensures.0 c.before.if2.true),
       omega (arith, ap (λ (x : RuleRead). x.next) c.rule-bad2.ensures),
     )
 
@@ -56,7 +56,7 @@ rule-bad-requires-3 : tie.Need-rule-bad-requires-3
 rule-bad-requires-3 c κs = search rules
 
 returns-3 : tie.Need-returns-3
-unfolding ruleAt
+unfolding rule_at_of
 returns-3 c =
     let c3 = c.before.before.before in
     let c2 = c3.before.before.before in
@@ -64,7 +64,7 @@ returns-3 c =
       c.rule-bad3.ensures ∙ sym (
           then_next _ _ _ _ c1.number_at.ensures.0 c2.before.if1.false
           ∙ then_next _ _ _ _ c2.number-at2.ensures.0 c3.before.if2.false
-          ∙ then-stop _ _ _ _ c3.number-at3.ensures.0 c.before.if3.true),
+          ∙ then_stop _ _ _ _ c3.number-at3.ensures.0 c.before.if3.true),
       omega (arith, ap (λ (x : RuleRead). x.next) c.rule-bad3.ensures),
     )
 
@@ -78,7 +78,7 @@ rule-bad-requires-4 : tie.Need-rule-bad-requires-4
 rule-bad-requires-4 c κs = search rules
 
 returns-4 : tie.Need-returns-4
-unfolding ruleAt
+unfolding rule_at_of
 returns-4 c =
     let c4 = c.before.before.before in
     let c3 = c4.before.before.before in
@@ -88,7 +88,7 @@ returns-4 c =
           then_next _ _ _ _ c1.number_at.ensures.0 c2.before.if1.false
           ∙ then_next _ _ _ _ c2.number-at2.ensures.0 c3.before.if2.false
           ∙ then_next _ _ _ _ c3.number-at3.ensures.0 c4.before.if3.false
-          ∙ then-stop _ _ _ _ c4.number-at4.ensures.0 c.before.if4.true),
+          ∙ then_stop _ _ _ _ c4.number-at4.ensures.0 c.before.if4.true),
       omega (arith, ap (λ (x : RuleRead). x.next) c.rule-bad4.ensures),
     )
 
@@ -96,16 +96,16 @@ delay-of-requires : tie.Need-delay-of-requires
 delay-of-requires c κs = search rules
 
 narrow-requires : tie.Need-narrow-requires
-narrow-requires c κs = omega (arith, c.before.before.before.before.before.before.before.before.before.before.before.before.before.before.requires, num-range _ _ _ _ _ c.before.before.before.before.before.before.before.before.before.before.before.before.number_at.ensures.0 c.before.before.before.before.before.before.before.before.before.before.if1.false)
+narrow-requires c κs = omega (arith, c.before.before.before.before.before.before.before.before.before.before.before.before.before.before.requires, num_range _ _ _ _ _ c.before.before.before.before.before.before.before.before.before.before.before.before.number_at.ensures.0 c.before.before.before.before.before.before.before.before.before.before.if1.false)
 
 narrow-requires-2 : tie.Need-narrow-requires-2
-narrow-requires-2 c κs = omega (arith, c.before.before.before.before.before.before.before.before.before.before.before.before.before.before.before.requires, num-range _ _ _ _ _ c.before.before.before.before.before.before.before.before.before.before.number-at2.ensures.0 c.before.before.before.before.before.before.before.before.if2.false)
+narrow-requires-2 c κs = omega (arith, c.before.before.before.before.before.before.before.before.before.before.before.before.before.before.before.requires, num_range _ _ _ _ _ c.before.before.before.before.before.before.before.before.before.before.number-at2.ensures.0 c.before.before.before.before.before.before.before.before.if2.false)
 
 narrow-requires-3 : tie.Need-narrow-requires-3
-narrow-requires-3 c κs = omega (arith, num-range _ _ _ _ _ c.before.before.before.before.before.before.before.before.number-at3.ensures.0 c.before.before.before.before.before.before.if3.false)
+narrow-requires-3 c κs = omega (arith, num_range _ _ _ _ _ c.before.before.before.before.before.before.before.before.number-at3.ensures.0 c.before.before.before.before.before.before.if3.false)
 
 returns-5 : tie.Need-returns-5
-unfolding ruleAt
+unfolding rule_at_of
 returns-5 c =
     let c5 = c.before.before.before in
     let c4 = c5.before.before.before in
@@ -117,7 +117,7 @@ returns-5 c =
           ∙ then_next _ _ _ _ c2.number-at2.ensures.0 c3.before.if2.false
           ∙ then_next _ _ _ _ c3.number-at3.ensures.0 c4.before.if3.false
           ∙ then_next _ _ _ _ c4.number-at4.ensures.0 c5.before.if4.false
-          ∙ rule-same _ _ _ _ _ _ _ _ _ c.before.before.narrow.ensures c.before.narrow2.ensures c.narrow3.ensures c5.delay-of.ensures),
+          ∙ rule_same _ _ _ _ _ _ _ _ _ c.before.before.narrow.ensures c.before.narrow2.ensures c.narrow3.ensures c5.delay-of.ensures),
       c4.number-at4.ensures.1,
     )
 

@@ -1,9 +1,9 @@
 -- `rulefile::rule_length` meets its contract: the sum of four lengths. No loop. Assumes nothing.
 use mathlib.Core.Path.{ap, ◌∙◌}
 use native.Mathlib.Omega.{arith}
-use Rattle.sevens.specs.Sevens.{codeLength}
-use Rattle.rulefile.specs.File.{ruleBytes, delayCode}
-use Rattle.rulefile.specs.Length.{four-length}
+use Rattle.sevens.specs.Sevens.{code_length_of}
+use Rattle.rulefile.specs.File.{rule_bytes, delay_code}
+use Rattle.rulefile.specs.Length.{four_length}
 use borrow.Author.Rules.{rules}
 use Rattle.rulefile.proofs.rule_length.Statement.{statement}
 use Rattle.rulefile.proofs.rule_length.Tie as tie
@@ -42,17 +42,17 @@ add-result-3 : tie.Need-overflow-add-result-3
 add-result-3 c = search rules
 
 returns : tie.Need-returns
-unfolding ruleBytes
+unfolding rule_bytes
 returns c =
     let c3 = c.before.before in
     let c2 = c3.before.before in
     let c1 = c2.before.before in
     let x = c1.before.before.args.rule in
-    let source = c1.length-of.ensures.0 ∙ ap codeLength c1.before.wide-u16.ensures in
-    let target = c2.length-of2.ensures.0 ∙ ap codeLength c2.before.wide-u162.ensures in
-    let offset = c3.length-of3.ensures.0 ∙ ap codeLength c3.before.wide-u163.ensures in
-    let delay = c.length-of4.ensures.0 ∙ ap codeLength c.before.code_of_lem.ensures in
-    omega (arith, source, target, offset, delay, four-length x.source x.target x.offset (delayCode x.delay))
+    let source = c1.length-of.ensures.0 ∙ ap code_length_of c1.before.wide-u16.ensures in
+    let target = c2.length-of2.ensures.0 ∙ ap code_length_of c2.before.wide-u162.ensures in
+    let offset = c3.length-of3.ensures.0 ∙ ap code_length_of c3.before.wide-u163.ensures in
+    let delay = c.length-of4.ensures.0 ∙ ap code_length_of c.before.code_of_lem.ensures in
+    omega (arith, source, target, offset, delay, four_length x.source x.target x.offset (delay_code x.delay))
 
 pub rule-length-spec : {M : Type 1} → statement M
 rule-length-spec =

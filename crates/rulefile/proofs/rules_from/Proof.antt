@@ -6,14 +6,14 @@ use lib.ListN.{length}
 use native.Mathlib.Omega.{arith}
 use Rattle.table.specs.Form.{sized}
 use Rattle.table.specs.declared.Table.{Table}
-use Rattle.rulefile.specs.File.{rulesFrom}
-use Rattle.rulefile.specs.Steps.{sized-is, rules-bad, rules-good, rules-tail, rules-end}
+use Rattle.rulefile.specs.File.{rules_from_of}
+use Rattle.rulefile.specs.Steps.{sized_is, rules_bad, rules_good, rules_tail, rules_end}
 use borrow.Author.Rules.{rules}
 use Rattle.rulefile.proofs.rules_from.Statement.{statement}
 use Rattle.rulefile.proofs.rules_from.Tie as tie
 
 abbrev invariant-loop : tie.invariant-loop
-invariant-loop bytes from n m t₀ at₀ r₀ t at r = (r ≤ m) × (at ≤ length bytes) × (rulesFrom bytes n (sized n m) from 0 m ≡ rulesFrom bytes n t at r (m - r))
+invariant-loop bytes from n m t₀ at₀ r₀ t at r = (r ≤ m) × (at ≤ length bytes) × (rules_from_of bytes n (sized n m) from 0 m ≡ rules_from_of bytes n t at r (m - r))
 
 abbrev decreases-loop : tie.decreases-loop
 decreases-loop bytes from n m t₀ at₀ r₀ t at r = m - r
@@ -27,12 +27,12 @@ wide-requires c κs = search rules
 loop-holds : tie.Need-loop-init invariant-loop decreases-loop
 loop-holds c =
     let a = c.before.before.before.args in
-    let e = sized-is a.n a.m _ _ c.wide.ensures c.before.empty.ensures in
+    let e = sized_is a.n a.m _ _ c.wide.ensures c.before.empty.ensures in
     let k : a.m ≡ a.m - 0 = omega arith in (
       omega arith,
       omega arith,
-      ap (rulesFrom a.bytes.now a.n (sized a.n a.m) a.from 0) k
-          ∙ ap (λ (t : Table). rulesFrom a.bytes.now a.n t a.from 0 (a.m - 0)) (sym e),
+      ap (rules_from_of a.bytes.now a.n (sized a.n a.m) a.from 0) k
+          ∙ ap (λ (t : Table). rules_from_of a.bytes.now a.n t a.from 0 (a.m - 0)) (sym e),
     )
 
 rule-at-requires : tie.Need-rule-at-requires invariant-loop decreases-loop
@@ -47,7 +47,7 @@ returns c =
     let l = c.before.before.before.before.before.loop in
     let x = c.before.before.before.rule-at in
     c.file-bad.ensures
-    ∙ sym (l.invariant.2 ∙ rules-bad a.bytes.now a.n l.t l.at l.r (a.m - l.r) _ x.ensures.0 (omega arith) c.before.if1.true)
+    ∙ sym (l.invariant.2 ∙ rules_bad a.bytes.now a.n l.t l.at l.r (a.m - l.r) _ x.ensures.0 (omega arith) c.before.if1.true)
 
 mul-rule : tie.Need-overflow-mul-rule invariant-loop decreases-loop
 mul-rule c = omega arith
@@ -70,8 +70,8 @@ loop-again c =
       omega arith,
       x.ensures.1,
       l.invariant.2
-          ∙ rules-good a.bytes.now a.n l.t l.at l.r (a.m - l.r) _ x.ensures.0 (omega arith) c.before.if1.false
-          ∙ ap (rulesFrom a.bytes.now a.n _ _ _) k,
+          ∙ rules_good a.bytes.now a.n l.t l.at l.r (a.m - l.r) _ x.ensures.0 (omega arith) c.before.if1.false
+          ∙ ap (rules_from_of a.bytes.now a.n _ _ _) k,
     )
 
 file-bad-requires-2 : tie.Need-file-bad-requires-2 invariant-loop decreases-loop
@@ -82,13 +82,13 @@ returns-2 c =
     let a = c.before.before.before.before.before.before.before.args in
     let l = c.before.before.before.loop in
     c.file-bad2.ensures
-    ∙ sym (l.invariant.2 ∙ rules-tail a.bytes.now a.n l.t l.at l.r (a.m - l.r) (omega arith) c.before.if2.true)
+    ∙ sym (l.invariant.2 ∙ rules_tail a.bytes.now a.n l.t l.at l.r (a.m - l.r) (omega arith) c.before.if2.true)
 
 returns-3 : tie.Need-returns-3 invariant-loop decreases-loop
 returns-3 c =
     let a = c.before.before.before.before.before.before.args in
     let l = c.before.before.loop in
-    sym (l.invariant.2 ∙ rules-end a.bytes.now a.n l.t l.at l.r (a.m - l.r) (omega arith) c.if2.false)
+    sym (l.invariant.2 ∙ rules_end a.bytes.now a.n l.t l.at l.r (a.m - l.r) (omega arith) c.if2.false)
 
 pub rules-from-spec : {M : Type 1} → statement M
 rules-from-spec =

@@ -3,8 +3,8 @@ use mathlib.Core.Logic.{⊎_elim, inl, inr}
 use mathlib.Core.Path.{◌∙◌, ap}
 use native.Mathlib.Omega.{arith}
 use lib.ListN.{length}
-use Rattle.rulefile.specs.File.{fileOf}
-use Rattle.rulefile.specs.Steps.{judged-within, wrote-range, length-left, wrote}
+use Rattle.rulefile.specs.File.{file_of}
+use Rattle.rulefile.specs.Steps.{judged_within, wrote_range, length_left, wrote}
 use borrow.Author.Rules.{rules}
 use Rattle.rulefile.proofs.write.Statement.{statement}
 use Rattle.rulefile.proofs.write.Tie as tie
@@ -13,15 +13,15 @@ check-requires : tie.Need-check-requires
 check-requires c κs = search rules
 
 returns : tie.Need-returns
-returns c = wrote-range _ _ _ c.before.before.check.ensures c.if1.true
+returns c = wrote_range _ _ _ c.before.before.check.ensures c.if1.true
 
 file-length-requires : tie.Need-file-length-requires
-file-length-requires c κs = judged-within _ _ c.before.before.check.ensures c.if1.false
+file-length-requires c κs = judged_within _ _ c.before.before.check.ensures c.if1.false
 
 put-file-requires : tie.Need-put-file-requires
 put-file-requires c κs =
-    let w = judged-within _ _ c.before.before.before.before.before.check.ensures c.before.before.before.if1.false in
-    (w.m-high, omega (arith, c.before.before.file-length.ensures))
+    let w = judged_within _ _ c.before.before.before.before.before.check.ensures c.before.before.before.if1.false in
+    (w.m_high, omega (arith, c.before.before.file_length_lem.ensures))
 
 answer-requires : tie.Need-answer-requires
 answer-requires c κs = search rules
@@ -30,14 +30,14 @@ same_length : tie.Need-same-length
 same_length c =
     let a = c.before.before.before.before.before.before.before.args in
     ⊎_elim
-    (λ w. length-left a.out.now _ (fileOf a.t) (w.5 ∙ w.2.ensures))
+    (λ w. length_left a.out.now _ (file_of a.t) (w.5 ∙ w.2.ensures))
     (λ w. ap length w.1)
     c.before.if2.branch
 
 returns-2 : tie.Need-returns-2
 returns-2 c =
-    let w = judged-within _ _ c.before.before.before.before.before.check.ensures c.before.before.before.if1.false in
-    wrote _ _ _ _ _ w c.before.before.file-length.ensures c.answer.ensures
+    let w = judged_within _ _ c.before.before.before.before.before.check.ensures c.before.before.before.if1.false in
+    wrote _ _ _ _ _ w c.before.before.file_length_lem.ensures c.answer.ensures
     (⊎_elim (λ w. inl (w.0.taken, w.5 ∙ w.2.ensures)) (λ w. inr (w.0.left, w.1)) c.before.if2.branch)
 
 pub write_spec : {M : Type 1} → statement M

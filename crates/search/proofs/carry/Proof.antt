@@ -3,13 +3,13 @@
 use Prim.Native.Nat.{◌-◌, ◌≤◌}
 use mathlib.Core.Logic.{⊎_elim}
 use native.Mathlib.Omega.{arith}
-use Rattle.columns.specs.Columns.{shape, delayAt}
-use Rattle.search.specs.Climbing.{None, Going, going_start, going-asks, going_on, going-skip, going-carried}
+use Rattle.columns.specs.Columns.{shape, delay_at}
+use Rattle.search.specs.Climbing.{None, Going, going_start, going_asks, going_on, going_skip, going_carried}
 use Rattle.search.proofs.carry.Statement.{statement}
 use Rattle.search.proofs.carry.Tie as tie
 
 abbrev invariant-loop : tie.invariant-loop
-invariant-loop source target offset delay rules len m p q x₀ par₀ k₀ x par k = (k ≤ len) × Going (shape source target offset m) (delayAt delay) p q x₀ par₀ x par None k
+invariant-loop source target offset delay rules len m p q x₀ par₀ k₀ x par k = (k ≤ len) × Going (shape source target offset m) (delay_at delay) p q x₀ par₀ x par None k
 
 abbrev decreases-loop : tie.decreases-loop
 decreases-loop source target offset delay rules len m p q x₀ par₀ k₀ x par k = len - k
@@ -54,7 +54,7 @@ raise-requires : tie.Need-raise-requires invariant-loop decreases-loop
 raise-requires c κs =
     let l = c.before.before.before.before.before.before.before.before.before.before in
     let ready = l.before.requires.1 in
-    going-asks ready (omega arith) (omega (arith, l.before.requires.0)) l.loop.invariant.1
+    going_asks ready (omega arith) (omega (arith, l.before.requires.0)) l.loop.invariant.1
 
 add-k : tie.Need-overflow-add-k invariant-loop decreases-loop
 add-k c = omega arith
@@ -70,7 +70,7 @@ loop-again c =
       omega arith,
       ⊎_elim
           (λ w. rw (w.8, w.9) (going_on ready w.0.taken few l.loop.invariant.1 w.7.ensures (λ r n. absurd n)))
-          (λ w. rw (w.1, w.2) (going-skip ready l.loop.invariant.1))
+          (λ w. rw (w.1, w.2) (going_skip ready l.loop.invariant.1))
           c.if1.branch,
     )
 
@@ -78,7 +78,7 @@ returns : tie.Need-returns invariant-loop decreases-loop
 returns c =
     let l = c.before in
     let ready = l.before.requires.1 in
-    going-carried ready (omega (arith, l.before.requires.0)) l.loop.invariant.1
+    going_carried ready (omega (arith, l.before.requires.0)) l.loop.invariant.1
 
 pub carry-spec : {M : Type 1} → statement M
 carry-spec =

@@ -4,7 +4,7 @@ use mathlib.Core.Path.{◌≡◌}
 use Prim.Native.Nat.{ℕ}
 use native.Mathlib.Nat.{mod-lt}
 use native.Mathlib.Omega.{arith}
-use Rattle.theory.specs.Ratio.{IsGcd, gcd-end, gcd-step}
+use Rattle.theory.specs.Ratio.{IsGcd, gcd_end, gcd_step}
 use Rattle.search.proofs.gcd.Statement.{statement}
 use Rattle.search.proofs.gcd.Tie as tie
 
@@ -24,13 +24,13 @@ loop-less : tie.Need-loop-smaller invariant-loop decreases-loop
 loop-less c = mod-lt c.before.loop.x (omega arith)
 
 loop-again : tie.Need-loop-preserved invariant-loop decreases-loop
-loop-again c = λ d g. c.before.loop.invariant d (gcd-step c.before.loop.x c.before.loop.y d (omega arith) g)
+loop-again c = λ d g. c.before.loop.invariant d (gcd_step c.before.loop.x c.before.loop.y d (omega arith) g)
 
 returns : tie.Need-returns invariant-loop decreases-loop
 returns c =
     let l = c.before in
     let done : l.loop.y ≡ 0 = omega arith in
-    l.loop.invariant l.loop.x (rw done (gcd-end l.loop.x))
+    l.loop.invariant l.loop.x (rw done (gcd_end l.loop.x))
 
 pub gcd-spec : {M : Type 1} → statement M
 gcd-spec = tie.close (tie.spec invariant-loop decreases-loop loop-holds rem-z loop-less loop-again returns)

@@ -3,19 +3,19 @@
 use Prim.Native.Nat.{◌-◌, ◌≤◌, ◌<◌}
 use mathlib.Core.Logic.{⊎_elim}
 use native.Mathlib.Omega.{arith}
-use Rattle.columns.specs.Columns.{shape, delayAt}
-use Rattle.search.specs.Climbing.{Before, Going, Told, before-next, told-start, going_start, going-asks, going_on, told-raise, told-keep, going_end}
+use Rattle.columns.specs.Columns.{shape, delay_at}
+use Rattle.search.specs.Climbing.{Before, Going, Told, before_next, told_start, going_start, going_asks, going_on, told_raise, told_keep, going_end}
 use Rattle.search.proofs.pass.Statement.{statement}
 use Rattle.search.proofs.pass.Tie as tie
 
 abbrev invariant-loop : tie.invariant-loop
-invariant-loop source target offset delay m p q x₀ par₀ changed₀ i₀ x par changed i = (i ≤ m) × Going (shape source target offset m) (delayAt delay) p q x₀ par₀ x par (Before i) i × Told (shape source target offset m) x₀ x changed
+invariant-loop source target offset delay m p q x₀ par₀ changed₀ i₀ x par changed i = (i ≤ m) × Going (shape source target offset m) (delay_at delay) p q x₀ par₀ x par (Before i) i × Told (shape source target offset m) x₀ x changed
 
 abbrev decreases-loop : tie.decreases-loop
 decreases-loop source target offset delay m p q x₀ par₀ changed₀ i₀ x par changed i = m - i
 
 loop-holds : tie.Need-loop-init invariant-loop decreases-loop
-loop-holds c = (omega arith, going_start c.requires (Before 0) (λ r b. omega arith), told-start)
+loop-holds c = (omega arith, going_start c.requires (Before 0) (λ r b. omega arith), told_start)
 
 mul-raise : tie.Need-overflow-mul-raise invariant-loop decreases-loop
 mul-raise c = omega arith
@@ -44,7 +44,7 @@ element-copy-out-raise-4 c = omega arith
 raise-requires : tie.Need-raise-requires invariant-loop decreases-loop
 raise-requires c κs =
     let l = c.before.before.before.before.before.before.before in
-    going-asks l.before.requires (omega arith) (omega (arith, l.before.requires.query.few-rules)) l.loop.invariant.1
+    going_asks l.before.requires (omega arith) (omega (arith, l.before.requires.query.few_rules)) l.loop.invariant.1
 
 add-i : tie.Need-overflow-add-i invariant-loop decreases-loop
 add-i c = omega arith
@@ -58,15 +58,15 @@ loop-again c =
     let i = l.loop.i in
     let ready = l.before.requires in
     let below : i < l.before.args.m = omega arith in
-    let few : i ≤ 2048 = omega (arith, ready.query.few-rules) in
+    let few : i ≤ 2048 = omega (arith, ready.query.few_rules) in
     let going = l.loop.invariant.1 in
     let told = l.loop.invariant.2 in
     let risen = c.before.raise.ensures in (
       omega arith,
-      going_on ready below few going risen (before-next i),
+      going_on ready below few going risen (before_next i),
       ⊎_elim
-          (λ w. told-raise ready below few going risen w.0.taken w.1)
-          (λ w. told-keep ready below few going risen told w.0.left w.1)
+          (λ w. told_raise ready below few going risen w.0.taken w.1)
+          (λ w. told_keep ready below few going risen told w.0.left w.1)
           c.if1.branch,
     )
 

@@ -1,7 +1,7 @@
 -- `sevens::number` meets its contract.
 -- It is `number_in` with three groups; a value is at most the highest, so that it fits 32 bits.
 -- Assumes nothing.
-use Rattle.sevens.specs.Steps.{read-most}
+use Rattle.sevens.specs.Steps.{read_most}
 use native.Mathlib.Omega.{arith}
 use borrow.Author.Rules.{rules}
 use Rattle.sevens.proofs.number.Statement.{statement}
@@ -11,7 +11,7 @@ number-in-requires : tie.Need-number-in-requires
 number-in-requires c κs = search rules
 
 cast-value : tie.Need-overflow-cast-value
-cast-value c = omega (arith, read-most c.before.number_in.ensures)
+cast-value c = omega (arith, read_most c.before.number_in.ensures)
 
 returns : tie.Need-returns
 returns c = search rules

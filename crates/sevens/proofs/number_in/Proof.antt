@@ -3,9 +3,9 @@
 -- Assumes nothing.
 use mathlib.Core.Path.{◌≡◌, refl, ap, sym, ◌∙◌}
 use Rattle.sevens.specs.declared.Raw.TheVariants.{Value}
-use Rattle.sevens.specs.Sevens.{rawOf, refused}
-use Rattle.sevens.specs.Laws.{raw-size, number_cut, number-long, number-low, number-high}
-use Rattle.sevens.specs.Steps.{read-refused, read-accepted}
+use Rattle.sevens.specs.Sevens.{raw_of, refused}
+use Rattle.sevens.specs.Laws.{raw_size, number_cut, number_long, number_low, number_high}
+use Rattle.sevens.specs.Steps.{read_refused, read_accepted}
 use native.Mathlib.Omega.{arith}
 use borrow.Author.Rules.{rules}
 use Rattle.sevens.proofs.number_in.Statement.{statement}
@@ -21,7 +21,7 @@ use Rattle.sevens.proofs.written.Reads as written-reads
 abbrev Known : Type 0
 Known = lts.After-known-told (written-reads.Asked, written-reads.Learnt, cut-place-reads.Asked, cut-place-reads.Learnt, nothing-reads.Asked, nothing-reads.Learnt, long-place-reads.Asked, long-place-reads.Learnt) reads.Pre reads.Post
 
-known : (c : Known) → rawOf c.before.before.before.before.before.args.groups c.before.before.before.before.before.args.bytes.now ≡ Value c.before.x.given.0.0 c.before.x.given.0.1.0
+known : (c : Known) → raw_of c.before.before.before.before.before.args.groups c.before.before.before.before.before.args.bytes.now ≡ Value c.before.x.given.0.0 c.before.x.given.0.1.0
 known c = sym c.before.before.before.written.ensures ∙ c.before.x.given.1
 
 written-requires : tie.Need-written-requires
@@ -53,20 +53,20 @@ nothing-requires-3 c κs = search rules
 
 returns : tie.Need-returns
 returns c =
-    read-refused _ _ _ _ 3 _ _ _ _ (number-low _ _ _ _ _ _ (known c.before.before) (omega arith)) (omega arith) c.nothing3.ensures
+    read_refused _ _ _ _ 3 _ _ _ _ (number_low _ _ _ _ _ _ (known c.before.before) (omega arith)) (omega arith) c.nothing3.ensures
 
 nothing-requires-4 : tie.Need-nothing-requires-4
 nothing-requires-4 c κs = search rules
 
 returns-2 : tie.Need-returns-2
 returns-2 c =
-    read-refused _ _ _ _ 3 _ _ _ _ (number-high _ _ _ _ _ _ (known c.before.before.before) (omega arith)) (omega arith) c.nothing4.ensures
+    read_refused _ _ _ _ 3 _ _ _ _ (number_high _ _ _ _ _ _ (known c.before.before.before) (omega arith)) (omega arith) c.nothing4.ensures
 
 sub-result : tie.Need-overflow-sub-result
-sub-result c = omega (arith, raw-size _ _ _ _ (known c.before.before))
+sub-result c = omega (arith, raw_size _ _ _ _ (known c.before.before))
 
 part-result-start : tie.Need-slice-bounds-result-start
-part-result-start c = omega (arith, raw-size _ _ _ _ (known c.before.before))
+part-result-start c = omega (arith, raw_size _ _ _ _ (known c.before.before))
 
 part-result-end : tie.Need-slice-bounds-result-end
 part-result-end c = search rules
@@ -74,16 +74,16 @@ part-result-end c = search rules
 returns-3 : tie.Need-returns-3
 returns-3 c =
     let e = sym c.before.before.before.before.written.ensures ∙ c.before.before.enum_told.given.1 in
-    read-refused _ _ _ _ 1 _ _ _ _ (number_cut _ _ _ _ e ∙ ap (refused 1) (sym c.before.cut-place.ensures)) (omega arith) c.nothing.ensures
+    read_refused _ _ _ _ 1 _ _ _ _ (number_cut _ _ _ _ e ∙ ap (refused 1) (sym c.before.cut_place_lem.ensures)) (omega arith) c.nothing.ensures
 
 returns-4 : tie.Need-returns-4
 returns-4 c =
     let e = sym c.before.before.before.before.written.ensures ∙ c.before.before.enum-told2.given.1 in
-    read-refused _ _ _ _ 2 _ _ _ _ (number-long _ _ _ _ e ∙ ap (refused 2) (sym c.before.long-place.ensures)) (omega arith) c.nothing2.ensures
+    read_refused _ _ _ _ 2 _ _ _ _ (number_long _ _ _ _ e ∙ ap (refused 2) (sym c.before.long_place_lem.ensures)) (omega arith) c.nothing2.ensures
 
 returns-5 : tie.Need-returns-5
 returns-5 c =
-    read-accepted _ _ _ _ _ _ c.before.before.before.before.before.before.before.before.args.bytes.ref_ptr _ (known c.before.before.before) (omega arith) refl (omega arith)
+    read_accepted _ _ _ _ _ _ c.before.before.before.before.before.before.before.before.args.bytes.ref_ptr _ (known c.before.before.before) (omega arith) refl (omega arith)
 
 pub number-in-spec : {M : Type 1} → statement M
 number-in-spec =

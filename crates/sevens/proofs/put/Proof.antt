@@ -5,9 +5,9 @@ use Prim.Native.Nat.{◌+◌, ◌≤◌}
 use mathlib.Core.Path.{◌≡◌, refl}
 use lib.ListN.{length, length-set}
 use lib.Seq.{sets}
-use Rattle.sevens.specs.Sevens.{code_of, codeLength}
-use Rattle.sevens.specs.Laws.{code-some, code-length-more, put-none}
-use Rattle.sevens.specs.Steps.{write_again, write-last, write-all}
+use Rattle.sevens.specs.Sevens.{code_of, code_length_of}
+use Rattle.sevens.specs.Laws.{code_some, code_length_more, put_none}
+use Rattle.sevens.specs.Steps.{write_again, write_last, write_all_lem}
 use native.Mathlib.Omega.{arith}
 use borrow.Author.Rules.{rules}
 use Rattle.sevens.proofs.put.Statement.{statement}
@@ -15,7 +15,7 @@ use Rattle.sevens.proofs.put.Tie as tie
 
 abbrev invariant-loop : tie.invariant-loop
 invariant-loop v out₀ at count left₀ i₀ out left i =
-    (length out ≡ length out₀) × (count ≡ codeLength v) × (at + count ≤ length out₀) × (i + codeLength left ≡ at + count)
+    (length out ≡ length out₀) × (count ≡ code_length_of v) × (at + count ≤ length out₀) × (i + code_length_of left ≡ at + count)
     × (sets out₀ at (code_of v) ≡ sets out i (code_of left))
 
 abbrev decreases-loop : tie.decreases-loop
@@ -27,7 +27,7 @@ code-length-requires c κs = omega arith
 returns : tie.Need-returns invariant-loop decreases-loop
 returns c =
     let start = c.before.before.before.args in
-    put-none start.v start.out.now start.at (omega (arith, code-some start.v))
+    put_none start.v start.out.now start.at (omega (arith, code_some start.v))
 
 sub-if2 : tie.Need-overflow-sub-if2 invariant-loop decreases-loop
 sub-if2 c = omega arith
@@ -35,7 +35,7 @@ sub-if2 c = omega arith
 returns-2 : tie.Need-returns-2 invariant-loop decreases-loop
 returns-2 c =
     let start = c.before.before.before.before.args in
-    put-none start.v start.out.now start.at (omega arith)
+    put_none start.v start.out.now start.at (omega arith)
 
 loop-holds : tie.Need-loop-init invariant-loop decreases-loop
 loop-holds c = (refl, c.before.before.code-length.ensures, omega arith, omega (arith, c.before.before.code-length.ensures), refl)
@@ -47,10 +47,10 @@ narrow-requires : tie.Need-narrow-requires invariant-loop decreases-loop
 narrow-requires c κs = omega arith
 
 slice-write-out : tie.Need-slice-write-out invariant-loop decreases-loop
-slice-write-out c = omega (arith, code-some c.before.before.loop.left)
+slice-write-out c = omega (arith, code_some c.before.before.loop.left)
 
 add-i : tie.Need-overflow-add-i invariant-loop decreases-loop
-add-i c = omega (arith, code-some c.before.before.loop.left)
+add-i c = omega (arith, code_some c.before.before.loop.left)
 
 loop-less : tie.Need-loop-smaller invariant-loop decreases-loop
 loop-less c = omega arith
@@ -61,7 +61,7 @@ loop-again c =
       simp length-set at.invariant.0,
       at.invariant.1,
       at.invariant.2,
-      omega (arith, code-length-more at.left (omega arith)),
+      omega (arith, code_length_more at.left (omega arith)),
       write_again _ at.out at.i at.left c.narrow.result at.invariant.4 (omega arith),
     )
 
@@ -69,7 +69,7 @@ narrow-requires-2 : tie.Need-narrow-requires-2 invariant-loop decreases-loop
 narrow-requires-2 c κs = omega arith
 
 slice-write-out-2 : tie.Need-slice-write-out-2 invariant-loop decreases-loop
-slice-write-out-2 c = omega (arith, code-some c.before.before.loop.left)
+slice-write-out-2 c = omega (arith, code_some c.before.before.loop.left)
 
 same_length : tie.Need-same-length invariant-loop decreases-loop
 same_length c = search rules
@@ -78,7 +78,7 @@ returns-3 : tie.Need-returns-3 invariant-loop decreases-loop
 returns-3 c =
     let start = c.before.before.before.before.before.before.before.args in
     let at = c.before.before.loop in
-    write-all start.v start.out.now _ start.at _ (write-last _ at.out at.i at.left c.narrow2.result at.invariant.4 (omega arith)) (omega arith)
+    write_all_lem start.v start.out.now _ start.at _ (write_last _ at.out at.i at.left c.narrow2.result at.invariant.4 (omega arith)) (omega arith)
 
 pub put_spec : {M : Type 1} → statement M
 put_spec =

@@ -5,8 +5,8 @@ use Prim.Native.Nat.{◌-◌, ◌^◌, ◌≤◌, ◌<◌}
 use mathlib.Core.Path.{◌≡◌, sym}
 use lib.ListN.{length, drop}
 use native.Mathlib.Omega.{arith}
-use Rattle.sevens.specs.Sevens.{rawOf}
-use Rattle.sevens.specs.Steps.{carried, carried-start, carried-cut, carried-zero, carried-last, carried-again, carried-long, Turn, turn-fits, scale-again}
+use Rattle.sevens.specs.Sevens.{raw_of}
+use Rattle.sevens.specs.Steps.{carried, carried_start, carried_cut, carried_zero, carried_last, carried_again, carried_long, Turn, turn_fits, scale_again}
 use Rattle.sevens.proofs.several.Statement.{statement}
 use Rattle.sevens.proofs.several.Tie as tie
 use Rattle.sevens.proofs.several.Reads as reads
@@ -16,7 +16,7 @@ use Rattle.sevens.proofs.wide.Reads as wide-reads
 abbrev invariant-loop : tie.invariant-loop
 invariant-loop bytes groups value₀ scale₀ i₀ value scale i =
     (1 ≤ i) × (i ≤ groups) × (i ≤ length bytes) × (scale ≡ 128 ^ i) × (value < scale)
-    × (rawOf groups bytes ≡ carried value scale i (rawOf (groups - i) (drop i bytes)))
+    × (raw_of groups bytes ≡ carried value scale i (raw_of (groups - i) (drop i bytes)))
 
 abbrev decreases-loop : tie.decreases-loop
 decreases-loop bytes groups value₀ scale₀ i₀ value scale i = groups - i
@@ -30,12 +30,12 @@ More = lts.Else3 (wide-reads.Asked, wide-reads.Learnt) reads.Pre reads.Post inva
 last_fits : (c : Last) → Turn c.before.before.before.before.before.before.loop.scale c.before.before.before.before.before.before.loop.value c.before.before.wide2.result
 last_fits c =
     let at = c.before.before.before.before.before.before.loop in
-    turn-fits c.before.before.before.before.before.before.before.before.before.before.args.groups at.i at.scale at.value c.before.before.wide2.result (omega arith)
+    turn_fits c.before.before.before.before.before.before.before.before.before.before.args.groups at.i at.scale at.value c.before.before.wide2.result (omega arith)
 
 more-fits : (c : More) → Turn c.before.before.before.before.before.before.loop.scale c.before.before.before.before.before.before.loop.value (c.before.before.wide2.result - 128)
 more-fits c =
     let at = c.before.before.before.before.before.before.loop in
-    turn-fits c.before.before.before.before.before.before.before.before.before.before.args.groups at.i at.scale at.value (c.before.before.wide2.result - 128) (omega arith)
+    turn_fits c.before.before.before.before.before.before.before.before.before.before.args.groups at.i at.scale at.value (c.before.before.wide2.result - 128) (omega arith)
 
 shared-slice-read-wide : tie.Need-shared-slice-read-wide invariant-loop decreases-loop
 shared-slice-read-wide c = omega arith
@@ -50,14 +50,14 @@ loop-holds : tie.Need-loop-init invariant-loop decreases-loop
 loop-holds c =
     let s = c.before.before.before.args.bytes.now in
     let g = c.before.before.before.args.groups in
-    (omega arith, omega arith, omega arith, omega arith, omega arith, carried-start g c.wide.result s (omega arith))
+    (omega arith, omega arith, omega arith, omega arith, omega arith, carried_start g c.wide.result s (omega arith))
 
 returns : tie.Need-returns invariant-loop decreases-loop
 returns c =
     let at = c.before.before.loop in
     let s = c.before.before.before.before.before.before.args.bytes.now in
     let g = c.before.before.before.before.before.before.args.groups in
-    sym (carried-cut (rawOf g s) g at.value at.scale at.i s at.invariant.5 (omega arith))
+    sym (carried_cut (raw_of g s) g at.value at.scale at.i s at.invariant.5 (omega arith))
 
 shared-slice-read-wide-2 : tie.Need-shared-slice-read-wide-2 invariant-loop decreases-loop
 shared-slice-read-wide-2 c = omega arith
@@ -70,7 +70,7 @@ returns-2 c =
     let at = c.before.before.before.before.before.loop in
     let s = c.before.before.before.before.before.before.before.before.before.args.bytes.now in
     let g = c.before.before.before.before.before.before.before.before.before.args.groups in
-    sym (carried-zero (rawOf g s) g at.value at.scale at.i s at.invariant.5 c.before.wide2.result (omega arith))
+    sym (carried_zero (raw_of g s) g at.value at.scale at.i s at.invariant.5 c.before.wide2.result (omega arith))
 
 mul-t14 : tie.Need-overflow-mul-t14 invariant-loop decreases-loop
 mul-t14 c = omega (arith, last_fits c)
@@ -86,7 +86,7 @@ returns-3 c =
     let at = c.before.before.before.before.before.before.loop in
     let s = c.before.before.before.before.before.before.before.before.before.before.args.bytes.now in
     let g = c.before.before.before.before.before.before.before.before.before.before.args.groups in
-    sym (carried-last (rawOf g s) g at.value at.scale at.i s at.invariant.5 c.before.before.wide2.result (omega arith))
+    sym (carried_last (raw_of g s) g at.value at.scale at.i s at.invariant.5 c.before.before.wide2.result (omega arith))
 
 mul-value : tie.Need-overflow-mul-value invariant-loop decreases-loop
 mul-value c = omega (arith, more-fits c)
@@ -111,9 +111,9 @@ loop-again c =
       omega arith,
       omega arith,
       omega arith,
-      scale-again at.i at.scale at.invariant.3,
+      scale_again at.i at.scale at.invariant.3,
       (more-fits c).1,
-      carried-again (rawOf g s) g at.value at.scale at.i s at.invariant.5 c.before.before.wide2.result (omega arith),
+      carried_again (raw_of g s) g at.value at.scale at.i s at.invariant.5 c.before.before.wide2.result (omega arith),
     )
 
 returns-4 : tie.Need-returns-4 invariant-loop decreases-loop
@@ -121,7 +121,7 @@ returns-4 c =
     let at = c.before.loop in
     let s = c.before.before.before.before.before.args.bytes.now in
     let g = c.before.before.before.before.before.args.groups in
-    sym (carried-long (rawOf g s) g at.value at.scale at.i s at.invariant.5 (omega arith))
+    sym (carried_long (raw_of g s) g at.value at.scale at.i s at.invariant.5 (omega arith))
 
 pub several-spec : {M : Type 1} → statement M
 several-spec =

@@ -2,14 +2,14 @@
 -- No byte is Cut, a first byte below 128 is the number; the rest is `several`'s.
 -- Assumes nothing.
 use mathlib.Core.Path.{sym}
-use Rattle.sevens.specs.Steps.{raw-none, raw-one}
+use Rattle.sevens.specs.Steps.{raw_none, raw_one}
 use native.Mathlib.Omega.{arith}
 use borrow.Author.Rules.{rules}
 use Rattle.sevens.proofs.written.Statement.{statement}
 use Rattle.sevens.proofs.written.Tie as tie
 
 returns : tie.Need-returns
-returns c = sym (raw-none c.before.before.args.groups c.before.before.args.bytes.now (omega arith))
+returns c = sym (raw_none c.before.before.args.groups c.before.before.args.bytes.now (omega arith))
 
 shared-slice-read-wide : tie.Need-shared-slice-read-wide
 shared-slice-read-wide c = search rules
@@ -20,7 +20,7 @@ wide-requires c κs = search rules
 returns-2 : tie.Need-returns-2
 returns-2 c =
     let before = c.before.before.before.before.before in
-    sym (raw-one before.args.groups c.before.wide.result before.args.bytes.now (omega arith))
+    sym (raw_one before.args.groups c.before.wide.result before.args.bytes.now (omega arith))
 
 several-requires : tie.Need-several-requires
 several-requires c κs = search rules

@@ -4,8 +4,8 @@ use mathlib.Core.Path.{refl}
 use native.Mathlib.Omega.{arith}
 use native.Mathlib.Nat.{mul_comm}
 use borrow.Author.Rules.{rules}
-use Rattle.columns.specs.Lay.{laid-limits, laid-ordered}
-use Rattle.simulation.specs.Blanks.{columns-live, columns-timed}
+use Rattle.columns.specs.Lay.{laid_limits, laid_ordered}
+use Rattle.simulation.specs.Blanks.{columns_live, columns_timed}
 use Rattle.simulation.specs.Refusals.{simulated}
 use Rattle.simulation.proofs.simulate.Statement.{statement}
 use Rattle.simulation.proofs.simulate.Tie as tie
@@ -25,8 +25,8 @@ written-requires c κs =
     let e = c.before.before.before.before.before.before.before.before.before.before in
     let passed = (e.before.before.refusal.ensures.passed (omega arith)).0 in
     let a = e.before.before.before.before.args in (
-      laid-limits _ passed.within _ _ _ _ _ _ laid,
-      ((laid-ordered _ passed.within _ _ _ _ _ _ laid).short-least, (columns-live _ _ _ _ _ _ _ laid passed.live, (passed.span.1, omega (arith, passed.room, mul_comm a.t.n a.occurrences)))),
+      laid_limits _ passed.within _ _ _ _ _ _ laid,
+      ((laid_ordered _ passed.within _ _ _ _ _ _ laid).short_least, (columns_live _ _ _ _ _ _ _ laid passed.live, (passed.span.1, omega (arith, passed.room, mul_comm a.t.n a.occurrences)))),
     )
 
 same_length : tie.Need-same-length
@@ -37,7 +37,7 @@ returns-2 c =
     let laid = c.before.before.before.before.before.before.before.before.before.before.before.before.lay.ensures in
     let e = c.before.before.before.before.before.before.before.before.before.before.before.before.before in
     let judged = e.before.before.refusal.ensures.passed (omega arith) in
-    simulated _ _ _ _ _ judged.0 (omega arith) judged.1 (columns-timed _ _ _ _ _ _ _ laid _ _ _ _ c.before.before.written.ensures)
+    simulated _ _ _ _ _ judged.0 (omega arith) judged.1 (columns_timed _ _ _ _ _ _ _ laid _ _ _ _ c.before.before.written.ensures)
 
 pub simulate-spec : {M : Type 1} → statement M
 simulate-spec =

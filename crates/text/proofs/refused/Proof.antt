@@ -1,6 +1,6 @@
 -- `text::refused` meets its contract: the line is put into a fresh buffer. No loop. Assumes nothing.
 use native.Mathlib.Omega.{arith}
-use Rattle.words.specs.Held.{holds-put}
+use Rattle.words.specs.Held.{holds_put}
 use borrow.Author.Rules.{rules}
 use Rattle.text.proofs.refused.Statement.{statement}
 use Rattle.text.proofs.refused.Tie as tie
@@ -12,7 +12,7 @@ refused-line-requires : tie.Need-refused-line-requires
 refused-line-requires c κs = search rules
 
 returns : tie.Need-returns
-returns c = holds-put _ _ _ c.before.refused-line.ensures.0 (omega (arith, c.before.refused-line.ensures.1))
+returns c = holds_put _ _ _ c.before.refused_line_lem.ensures.0 (omega (arith, c.before.refused_line_lem.ensures.1))
 
 pub refused-spec : {M : Type 1} → statement M
 refused-spec =

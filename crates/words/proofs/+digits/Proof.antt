@@ -3,8 +3,8 @@ use Prim.Native.Nat.{ℕ, ◌+◌, ◌/◌, ◌<◌}
 use mathlib.Core.Path.{ap, sym, ◌∙◌}
 use native.Mathlib.Omega.{arith}
 use mathlib.Core.List.{[], ◌∷◌, ◌++◌}
-use Rattle.words.specs.Decimal.{decimal, decimal-one, decimal-more}
-use Rattle.words.specs.Puts.{puts_then, puts-same}
+use Rattle.words.specs.Decimal.{decimal, decimal_one, decimal_more}
+use Rattle.words.specs.Puts.{puts_then, puts_same}
 use borrow.Author.Rules.{rules}
 use borrow.Fn.Kinds.{In}
 use borrow.Fn.PlainCycle.{Measures, is, falls, and}
@@ -63,7 +63,7 @@ digits-returns : (t : ℕ) → digits-lts.Need-returns (
   digits-below t,
   digits.Post,
 ) (digits-at t) digits.Post
-digits-returns t c = puts-same (ap (λ (b : ℕ). b ∷ []) c.before.before.before.before.digit.ensures ∙ sym (decimal-one _ c.before.before.before.before.before.if1.true)) c.before.before.byte.ensures
+digits-returns t c = puts_same (ap (λ (b : ℕ). b ∷ []) c.before.before.before.before.digit.ensures ∙ sym (decimal_one _ c.before.before.before.before.before.if1.true)) c.before.before.byte.ensures
 
 digits-digits-requires : (t : ℕ) → digits-lts.Need-digits-requires (
   digit-reads.Asked,
@@ -115,7 +115,7 @@ digits-returns-2 : (t : ℕ) → digits-lts.Need-returns-2 (
 ) (digits-at t) digits.Post
 digits-returns-2 t c =
     let v = c.before.before.before.before.before.before.before.before.before.before.before.args.v in
-    puts-same (ap (λ (b : ℕ). decimal (v / 10) ++ (b ∷ [])) c.before.before.before.before.digit2.ensures ∙ sym (decimal-more v (omega arith))) (puts_then c.before.before.before.before.before.before.before.digits.ensures c.before.before.byte2.ensures)
+    puts_same (ap (λ (b : ℕ). decimal (v / 10) ++ (b ∷ [])) c.before.before.before.before.digit2.ensures ∙ sym (decimal_more v (omega arith))) (puts_then c.before.before.before.before.before.before.before.digits.ensures c.before.before.byte2.ensures)
 
 pub +digits-spec : {M : Type 1} → statement M
 +digits-spec = close μ-digits λ t. digits-lts.spec (

@@ -1,5 +1,5 @@
 -- `words::byte` meets its contract: the byte is put where there is room. No loop. Assumes nothing.
-use Rattle.words.specs.Puts.{puts-full}
+use Rattle.words.specs.Puts.{puts_full}
 use borrow.Author.Rules.{rules}
 use Rattle.words.proofs.byte.Statement.{statement}
 use Rattle.words.proofs.byte.Tie as tie
@@ -17,7 +17,7 @@ returns : tie.Need-returns
 returns c = search rules
 
 returns-2 : tie.Need-returns-2
-returns-2 c = puts-full _ _ _ c.if1.false
+returns-2 c = puts_full _ _ _ c.if1.false
 
 pub byte-spec : {M : Type 1} → statement M
 byte-spec = tie.close (tie.spec slice-write-out add-result same_length returns returns-2)

@@ -2,7 +2,7 @@
 use mathlib.Core.Path.{ap}
 use native.Mathlib.Omega.{arith}
 use Rattle.words.specs.Decimal.{decimal}
-use Rattle.words.specs.Puts.{puts_then, puts-same}
+use Rattle.words.specs.Puts.{puts_then, puts_same}
 use borrow.Author.Rules.{rules}
 use Rattle.words.proofs.refused_words.Statement.{statement}
 use Rattle.words.proofs.refused_words.Tie as tie
@@ -40,7 +40,7 @@ returns c =
     let f = c.before.before.before.before.before.before.before.before.before.before.before.decimal.ensures in
     let at = c.before.before.before.before.before.before.word2.ensures in
     let p = c.before.before.decimal2.ensures in (
-      puts_then refused (puts_then (puts-same (ap decimal c.before.before.before.before.before.before.before.before.before.before.before.before.before.before.before.before.before.before.before.wide.ensures) f.0) (puts_then at (puts-same (ap decimal c.before.before.before.before.before.before.before.before.before.before.before.before.before.before.before.before.before.before.wide-usize.ensures) p.0))),
+      puts_then refused (puts_then (puts_same (ap decimal c.before.before.before.before.before.before.before.before.before.before.before.before.before.before.before.before.before.before.before.wide.ensures) f.0) (puts_then at (puts_same (ap decimal c.before.before.before.before.before.before.before.before.before.before.before.before.before.before.before.before.before.before.wide-usize.ensures) p.0))),
       omega (arith, refused.place, f.1, at.place, p.1),
     )
 

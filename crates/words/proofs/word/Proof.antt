@@ -5,7 +5,7 @@ use mathlib.Core.Path.{refl}
 use lib.ListN.{length, take}
 use native.Mathlib.Omega.{arith}
 use lib.Seq.{take_all}
-use Rattle.words.specs.Puts.{Puts, puts_none, puts-next, puts-length, puts-same}
+use Rattle.words.specs.Puts.{Puts, puts_none, puts_next, puts_length, puts_same}
 use borrow.Author.Rules.{rules}
 use Rattle.words.proofs.word.Statement.{statement}
 use Rattle.words.proofs.word.Tie as tie
@@ -34,15 +34,15 @@ loop-less c = omega arith
 loop-again : tie.Need-loop-preserved invariant-loop decreases-loop
 loop-again c =
     let l = c.before.before.before.before.before.before in
-    (omega arith, puts-next (λ x. x) l.before.before.before.args.s.now l.loop.i (λ x. refl) (omega arith) l.loop.invariant.1 c.before.before.byte.ensures)
+    (omega arith, puts_next (λ x. x) l.before.before.before.args.s.now l.loop.i (λ x. refl) (omega arith) l.loop.invariant.1 c.before.before.byte.ensures)
 
 same_length : tie.Need-same-length invariant-loop decreases-loop
-same_length c = puts-length c.before.loop.invariant.1
+same_length c = puts_length c.before.loop.invariant.1
 
 returns : tie.Need-returns invariant-loop decreases-loop
 returns c =
     let l = c.before in
-    puts-same (take_all l.loop.i l.before.before.before.args.s.now (omega arith)) l.loop.invariant.1
+    puts_same (take_all l.loop.i l.before.before.before.args.s.now (omega arith)) l.loop.invariant.1
 
 pub word-spec : {M : Type 1} → statement M
 word-spec =

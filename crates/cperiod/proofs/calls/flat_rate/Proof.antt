@@ -1,7 +1,7 @@
 -- `calls::flat_rate` meets its contract: the flag as a number, all else as it was. No loop. Assumes nothing.
 use mathlib.Core.Path.{ap}
 use borrow.Author.Rules.{rules}
-use Rattle.cperiod.specs.Steps.{rateWith}
+use Rattle.cperiod.specs.Steps.{rate_with}
 use Rattle.cperiod.proofs.calls.flat_rate.Statement.{statement}
 use Rattle.cperiod.proofs.calls.flat_rate.Tie as tie
 
@@ -9,7 +9,7 @@ bit-requires : tie.Need-bit-requires
 bit-requires c κs = search rules
 
 returns : tie.Need-returns
-returns c = ap (rateWith c.before.before.before.args.a) c.bit.ensures
+returns c = ap (rate_with c.before.before.before.args.a) c.bit.ensures
 
 pub flat-rate-spec : {M : Type 1} → statement M
 flat-rate-spec = tie.close (tie.spec bit-requires returns)

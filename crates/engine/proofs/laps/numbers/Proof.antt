@@ -7,7 +7,7 @@ use native.Mathlib.Omega.{arith}
 use borrow.Author.Rules.{rules}
 use mathlib.Core.List.{◌++◌}
 use lib.ListN.{replicate}
-use Rattle.engine.specs.Lap.{numbers-next}
+use Rattle.engine.specs.Lap.{numbers_next}
 use Rattle.engine.proofs.laps.numbers.Statement.{statement}
 use Rattle.engine.proofs.laps.numbers.Tie as tie
 
@@ -42,7 +42,7 @@ loop-less : tie.Need-loop-smaller invariant-loop decreases-loop
 loop-less c = omega arith
 
 loop-again : tie.Need-loop-preserved invariant-loop decreases-loop
-loop-again c = (omega arith, numbers-next _ _ _ _ (omega arith) (omega arith) c.before.before.loop.invariant.1 c.wide.ensures)
+loop-again c = (omega arith, numbers_next _ _ _ _ (omega arith) (omega arith) c.before.before.loop.invariant.1 c.wide.ensures)
 
 returns : tie.Need-returns invariant-loop decreases-loop
 returns c =

@@ -3,7 +3,7 @@
 use Prim.Native.Nat.{◌-◌, ◌≤◌}
 use mathlib.Core.Path.{◌≡◌}
 use native.Mathlib.Omega.{arith}
-use Rattle.rates.specs.Reach.{Taken, counts-most, taken_none, taken_next}
+use Rattle.rates.specs.Reach.{Taken, counts_most, taken_none, taken_next}
 use Rattle.rates.proofs.reach.gather.Statement.{statement}
 use Rattle.rates.proofs.reach.gather.Tie as tie
 
@@ -87,10 +87,10 @@ element-write-kept-5 : tie.Need-element-write-kept-5 invariant-loop decreases-lo
 element-write-kept-5 c = omega arith
 
 mul-counts : tie.Need-overflow-mul-counts invariant-loop decreases-loop
-mul-counts c = let w = c.before.before.before.before.before in let l = w.before.before.before in omega (arith, w.wide.ensures, l.before.requires.fits l.loop.r w.before.before.loop-test.true, l.before.requires.few-transitions)
+mul-counts c = let w = c.before.before.before.before.before in let l = w.before.before.before in omega (arith, w.wide.ensures, l.before.requires.fits l.loop.r w.before.before.loop-test.true, l.before.requires.few_transitions)
 
 element-copy-out-counts : tie.Need-element-copy-out-counts invariant-loop decreases-loop
-element-copy-out-counts c = let w = c.before.before.before.before.before in let l = w.before.before.before in omega (arith, w.wide.ensures, l.before.requires.fits l.loop.r w.before.before.loop-test.true, l.before.requires.few-transitions)
+element-copy-out-counts c = let w = c.before.before.before.before.before in let l = w.before.before.before in omega (arith, w.wide.ensures, l.before.requires.fits l.loop.r w.before.before.loop-test.true, l.before.requires.few_transitions)
 
 counts-requires : tie.Need-counts-requires invariant-loop decreases-loop
 counts-requires c κs = omega arith
@@ -98,7 +98,7 @@ counts-requires c κs = omega arith
 add-len : tie.Need-overflow-add-len invariant-loop decreases-loop
 add-len c =
     let l = c.before.before.before.before.before.before.before.before.before.before in
-    omega (arith, counts-most _ _ _ _ c.counts.ensures, l.loop.invariant.1.listed.few, l.before.requires.few-rules)
+    omega (arith, counts_most _ _ _ _ c.counts.ensures, l.loop.invariant.1.listed.few, l.before.requires.few_rules)
 
 add_r : tie.Need-overflow-add-r invariant-loop decreases-loop
 add_r c = omega arith
@@ -112,7 +112,7 @@ loop-again c =
     let l = w.before.before.before in
     let g = l.before.args in (
       omega arith,
-      taken_next g.source.now g.target.now g.offset.now g.least.now g.greatest.now g.v g.dist.now l.loop.r _ _ _ _ _ _ l.loop.invariant.1 (omega (arith, l.before.requires.few-rules)) _ _ w.wide.ensures c.counts.ensures,
+      taken_next g.source.now g.target.now g.offset.now g.least.now g.greatest.now g.v g.dist.now l.loop.r _ _ _ _ _ _ l.loop.invariant.1 (omega (arith, l.before.requires.few_rules)) _ _ w.wide.ensures c.counts.ensures,
     )
 
 returns : tie.Need-returns invariant-loop decreases-loop

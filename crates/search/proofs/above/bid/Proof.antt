@@ -2,7 +2,7 @@
 -- Assumes nothing.
 use native.Mathlib.Omega.{arith}
 use borrow.Author.Rules.{rules}
-use Rattle.search.specs.Above.{bid-made}
+use Rattle.search.specs.Above.{bid_made}
 use Rattle.search.proofs.above.bid.Statement.{statement}
 use Rattle.search.proofs.above.bid.Tie as tie
 
@@ -64,7 +64,7 @@ element-write-par : tie.Need-element-write-par
 element-write-par c = search rules
 
 returns : tie.Need-returns
-returns c = bid-made _ _ _ _ _ c.before.before.before.before.lifted.ensures.1 c.before.before.before.before.before.before.requires.delay-low c.before.before.larger.ensures c.parent.ensures
+returns c = bid_made _ _ _ _ _ c.before.before.before.before.lifted.ensures.1 c.before.before.before.before.before.before.requires.delay_low c.before.before.larger.ensures c.parent.ensures
 
 pub bid-spec : {M : Type 1} → statement M
 bid-spec =

@@ -5,7 +5,7 @@ use mathlib.Core.Logic.{⊎_elim}
 use native.Mathlib.Omega.{arith}
 use Rattle.columns.specs.Columns.{shape}
 use Rattle.search.specs.Climbing.{walk_of}
-use Rattle.search.specs.Above.{Bidding, bidding-start, bidding-skip, bidding-bids, bidding-on}
+use Rattle.search.specs.Above.{Bidding, bidding_start, bidding_skip, bidding_bids, bidding_on}
 use Rattle.search.proofs.above.start.Statement.{statement}
 use Rattle.search.proofs.above.start.Tie as tie
 
@@ -16,13 +16,13 @@ abbrev decreases-loop : tie.decreases-loop
 decreases-loop source target offset delay order m n most₀ par₀ k₀ most par k = m - k
 
 loop-holds : tie.Need-loop-init invariant-loop decreases-loop
-loop-holds c = (omega arith, bidding-start)
+loop-holds c = (omega arith, bidding_start)
 
 mul_wide : tie.Need-overflow-mul-wide invariant-loop decreases-loop
 mul_wide c = omega arith
 
 element-copy-out-wide : tie.Need-element-copy-out-wide invariant-loop decreases-loop
-element-copy-out-wide c = let few = c.before.before.requires.0.few-rules in omega arith
+element-copy-out-wide c = let few = c.before.before.requires.0.few_rules in omega arith
 
 wide-requires : tie.Need-wide-requires invariant-loop decreases-loop
 wide-requires c κs = omega arith
@@ -54,7 +54,7 @@ element-copy-out-bid-4 c = omega arith
 bid-requires : tie.Need-bid-requires invariant-loop decreases-loop
 bid-requires c κs =
     let l = c.before.before.before.before.before.before.before.before.before.before in
-    bidding-bids l.before.args.delay.now l.before.requires.0 l.before.requires.1 (omega arith) (omega (arith, l.before.requires.0.few-rules)) l.loop.invariant.1
+    bidding_bids l.before.args.delay.now l.before.requires.0 l.before.requires.1 (omega arith) (omega (arith, l.before.requires.0.few_rules)) l.loop.invariant.1
 
 add-k : tie.Need-overflow-add-k invariant-loop decreases-loop
 add-k c = omega arith
@@ -66,11 +66,11 @@ loop-again : tie.Need-loop-preserved invariant-loop decreases-loop
 loop-again c =
     let l = c.before.before.before.before in
     let limits = l.before.requires.0 in
-    let few : l.loop.k < 2048 = omega (arith, limits.few-rules) in (
+    let few : l.loop.k < 2048 = omega (arith, limits.few_rules) in (
       omega arith,
       ⊎_elim
-          (λ w. rw (w.8, w.9) (bidding-on l.before.args.delay.now limits l.before.requires.1 w.0.taken few l.loop.invariant.1 w.7.ensures))
-          (λ w. rw (w.1, w.2) (bidding-skip l.loop.invariant.1))
+          (λ w. rw (w.8, w.9) (bidding_on l.before.args.delay.now limits l.before.requires.1 w.0.taken few l.loop.invariant.1 w.7.ensures))
+          (λ w. rw (w.1, w.2) (bidding_skip l.loop.invariant.1))
           c.if1.branch,
     )
 

@@ -3,7 +3,7 @@
 -- Assumes nothing.
 use Prim.Native.Nat.{◌+◌, ◌-◌, ◌≤◌}
 use native.Mathlib.Omega.{arith}
-use Rattle.search.specs.Order.{Most, most-zeros, most-set}
+use Rattle.search.specs.Order.{Most, most_zeros, most_set}
 use Rattle.search.proofs.order.link.Statement.{statement}
 use Rattle.search.proofs.order.link.Tie as tie
 
@@ -14,7 +14,7 @@ abbrev decreases-loop : tie.decreases-loop
 decreases-loop source target offset m n first₀ next₀ waits₀ i₀ first next waits i = m - i
 
 loop-holds : tie.Need-loop-init invariant-loop decreases-loop
-loop-holds c = (omega arith, most-zeros 256 _, most-zeros 2048 _, most-zeros 256 _)
+loop-holds c = (omega arith, most_zeros 256 _, most_zeros 2048 _, most_zeros 256 _)
 
 sub-r : tie.Need-overflow-sub-r invariant-loop decreases-loop
 sub-r c = omega arith
@@ -96,9 +96,9 @@ loop-again c =
     let to = c.before.before.before.transition2.result in
     let old = l.loop.invariant in (
       omega arith,
-      most-set l.loop.first from _ m old.1 (omega arith),
-      most-set l.loop.next _ _ m old.2 (old.1 from),
-      most-set l.loop.waits to _ (l.loop.i + 1) (λ k. omega (arith, old.3 k)) (omega (arith, old.3 to)),
+      most_set l.loop.first from _ m old.1 (omega arith),
+      most_set l.loop.next _ _ m old.2 (old.1 from),
+      most_set l.loop.waits to _ (l.loop.i + 1) (λ k. omega (arith, old.3 k)) (omega (arith, old.3 to)),
     )
 
 returns : tie.Need-returns invariant-loop decreases-loop

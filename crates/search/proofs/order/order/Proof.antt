@@ -46,7 +46,7 @@ leave-requires c κs =
     let links = l.before.before.before.before.before.before.before in
     let limits = links.before.requires in
     let learnt = links.link.ensures in
-    (limits.few-rules, λ r b. omega (arith, limits.fits r b), learnt.1, omega (arith, learnt.0 c.before.before.before.before.before.wide.result), l.loop.invariant)
+    (limits.few_rules, λ r b. omega (arith, limits.fits r b), learnt.1, omega (arith, learnt.0 c.before.before.before.before.before.wide.result), l.loop.invariant)
 
 add_at : tie.Need-overflow-add-at invariant-loop decreases-loop
 add_at c = omega arith

@@ -3,7 +3,7 @@
 -- Assumes nothing.
 use Prim.Native.Nat.{◌-◌, ◌≤◌}
 use native.Mathlib.Omega.{arith}
-use Rattle.search.specs.Order.{Most, most-zeros, most-set}
+use Rattle.search.specs.Order.{Most, most_zeros, most_set}
 use Rattle.search.proofs.order.ready.Statement.{statement}
 use Rattle.search.proofs.order.ready.Tie as tie
 
@@ -14,7 +14,7 @@ abbrev decreases-loop : tie.decreases-loop
 decreases-loop waits n list₀ end₀ v₀ list end v = n - v
 
 loop-holds : tie.Need-loop-init invariant-loop decreases-loop
-loop-holds c = (omega arith, omega arith, most-zeros 256 255)
+loop-holds c = (omega arith, omega arith, most_zeros 256 255)
 
 narrow-requires : tie.Need-narrow-requires invariant-loop decreases-loop
 narrow-requires c κs = omega arith
@@ -49,7 +49,7 @@ loop-less c = omega arith
 loop-again : tie.Need-loop-preserved invariant-loop decreases-loop
 loop-again c =
     let l = c.before.before.before.before.before.loop in
-    (omega arith, omega arith, most-set l.list l.end _ 255 l.invariant.2 (omega arith))
+    (omega arith, omega arith, most_set l.list l.end _ 255 l.invariant.2 (omega arith))
 
 returns : tie.Need-returns invariant-loop decreases-loop
 returns c = (omega arith, c.before.loop.invariant.2)

@@ -1,7 +1,7 @@
 -- `search::order::release` meets its contract: what it writes into the queue is a transition.
 -- Assumes nothing.
 use native.Mathlib.Omega.{arith}
-use Rattle.search.specs.Order.{most-set}
+use Rattle.search.specs.Order.{most_set}
 use Rattle.search.proofs.order.release.Statement.{statement}
 use Rattle.search.proofs.order.release.Tie as tie
 
@@ -41,7 +41,7 @@ add-result c = omega arith
 returns-2 : tie.Need-returns-2
 returns-2 c =
     let s = c.before.before.before.before.before.before in
-    (omega arith, most-set s.args.list.now s.args.end _ 255 s.requires.1.1 (omega arith))
+    (omega arith, most_set s.args.list.now s.args.end _ 255 s.requires.1.1 (omega arith))
 
 returns-3 : tie.Need-returns-3
 returns-3 c = c.before.before.before.requires.1

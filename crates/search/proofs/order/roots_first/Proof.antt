@@ -17,7 +17,7 @@ loop-holds c = omega arith
 trace-requires : tie.Need-trace-requires invariant-loop decreases-loop
 trace-requires c κs =
     let limits = c.before.before.before.before.requires in
-    (limits.few-rules, (λ r b. omega (arith, limits.fits r b, limits.few-transitions)), omega (arith, limits.few-transitions))
+    (limits.few_rules, (λ r b. omega (arith, limits.fits r b, limits.few_transitions)), omega (arith, limits.few_transitions))
 
 append-requires : tie.Need-append-requires invariant-loop decreases-loop
 append-requires c κs = omega arith

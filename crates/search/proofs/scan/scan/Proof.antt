@@ -3,8 +3,8 @@
 use Prim.Native.Nat.{◌+◌, ◌-◌}
 use mathlib.Core.Path.{◌≡◌, refl}
 use native.Mathlib.Omega.{arith}
-use Rattle.columns.specs.Columns.{shape, delayAt}
-use Rattle.search.specs.Scan.{Looked, looked-start, looked-next, looked-on, looked-all, sums-low}
+use Rattle.columns.specs.Columns.{shape, delay_at}
+use Rattle.search.specs.Scan.{Looked, looked_start, looked_next, looked_on, looked_all, sums_low}
 use Rattle.search.proofs.scan.scan.Statement.{statement}
 use Rattle.search.proofs.scan.scan.Tie as tie
 use Rattle.search.proofs.scan.scan.Reads as reads
@@ -14,7 +14,7 @@ use Rattle.search.proofs.scan.walk_back.Reads as walk-back-reads
 
 abbrev invariant-loop : tie.invariant-loop
 invariant-loop source target offset delay m n par stamp₀ delays₀ offsets₀ best₀ from₀ number₀ stamp delays offsets best from number =
-    (number ≡ from + 1) × Looked (shape source target offset m) (delayAt delay) n par from stamp delays offsets best
+    (number ≡ from + 1) × Looked (shape source target offset m) (delay_at delay) n par from stamp delays offsets best
 
 abbrev decreases-loop : tie.decreases-loop
 decreases-loop source target offset delay m n par stamp₀ delays₀ offsets₀ best₀ from₀ number₀ stamp delays offsets best from number =
@@ -23,14 +23,14 @@ decreases-loop source target offset delay m n par stamp₀ delays₀ offsets₀ 
 loop-holds : tie.Need-loop-init invariant-loop decreases-loop
 loop-holds c =
     let g = c.args in
-    (refl, looked-start (shape g.source.now g.target.now g.offset.now g.m) (delayAt g.delay.now) g.n g.par.now)
+    (refl, looked_start (shape g.source.now g.target.now g.offset.now g.m) (delay_at g.delay.now) g.n g.par.now)
 
 walk-back-requires : tie.Need-walk-back-requires invariant-loop decreases-loop
 walk-back-requires c κs =
     let l = c.before.before.before.before in
     let s = l.before in
     let g = s.args in
-    let fresh = looked-next (shape g.source.now g.target.now g.offset.now g.m) (delayAt g.delay.now) g.n g.par.now l.loop.from l.loop.number l.loop.stamp l.loop.delays l.loop.offsets l.loop.best l.loop.invariant.1 (omega arith) l.loop.invariant.0 s.requires.0.few-transitions in
+    let fresh = looked_next (shape g.source.now g.target.now g.offset.now g.m) (delay_at g.delay.now) g.n g.par.now l.loop.from l.loop.number l.loop.stamp l.loop.delays l.loop.offsets l.loop.best l.loop.invariant.1 (omega arith) l.loop.invariant.0 s.requires.0.few_transitions in
     (s.requires, fresh)
 
 better-requires : tie.Need-better-requires invariant-loop decreases-loop
@@ -38,7 +38,7 @@ better-requires c κs =
     let l = c.before.before.before.before.before in
     let s = l.before in
     let g = s.args in
-    (sums-low (shape g.source.now g.target.now g.offset.now g.m) (delayAt g.delay.now) g.n g.par.now l.loop.best l.loop.invariant.1.sums s.requires.0.few-transitions, sums-low (shape g.source.now g.target.now g.offset.now g.m) (delayAt g.delay.now) g.n g.par.now c.walk-back.result c.walk-back.ensures.sums s.requires.0.few-transitions)
+    (sums_low (shape g.source.now g.target.now g.offset.now g.m) (delay_at g.delay.now) g.n g.par.now l.loop.best l.loop.invariant.1.sums s.requires.0.few_transitions, sums_low (shape g.source.now g.target.now g.offset.now g.m) (delay_at g.delay.now) g.n g.par.now c.walk-back.result c.walk-back.ensures.sums s.requires.0.few_transitions)
 
 add-from : tie.Need-overflow-add-from invariant-loop decreases-loop
 add-from c = omega arith
@@ -54,14 +54,14 @@ loop-again c =
     let l = c.before.before.before.before.before.before in
     let s = l.before in
     let g = s.args in
-    (omega arith, looked-on (shape g.source.now g.target.now g.offset.now g.m) (delayAt g.delay.now) g.n g.par.now l.loop.from l.loop.number l.loop.stamp l.loop.delays l.loop.offsets l.loop.best l.loop.invariant.1 (omega arith) l.loop.invariant.0 _ _ _ c.before.walk-back.result c.better.result c.before.walk-back.ensures c.better.ensures)
+    (omega arith, looked_on (shape g.source.now g.target.now g.offset.now g.m) (delay_at g.delay.now) g.n g.par.now l.loop.from l.loop.number l.loop.stamp l.loop.delays l.loop.offsets l.loop.best l.loop.invariant.1 (omega arith) l.loop.invariant.0 _ _ _ c.before.walk-back.result c.better.result c.before.walk-back.ensures c.better.ensures)
 
 returns : tie.Need-returns invariant-loop decreases-loop
 returns c =
     let l = c.before in
     let s = l.before in
     let g = s.args in
-    looked-all (shape g.source.now g.target.now g.offset.now g.m) (delayAt g.delay.now) g.n g.par.now l.loop.from l.loop.stamp l.loop.delays l.loop.offsets l.loop.best l.loop.invariant.1 (omega arith)
+    looked_all (shape g.source.now g.target.now g.offset.now g.m) (delay_at g.delay.now) g.n g.par.now l.loop.from l.loop.stamp l.loop.delays l.loop.offsets l.loop.best l.loop.invariant.1 (omega arith)
 
 pub scan-spec : {M : Type 1} → statement M
 scan-spec =

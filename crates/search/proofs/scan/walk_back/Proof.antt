@@ -2,8 +2,8 @@
 -- number, and their sums make up the difference to those left there. The measure is the count of transitions without a number. Assumes nothing.
 use Prim.Native.Nat.{◌-◌}
 use native.Mathlib.Omega.{arith}
-use Rattle.columns.specs.Columns.{shape, delayAt}
-use Rattle.search.specs.Scan.{Walking, Turn, unstamped, ready, walking_start, turn, sums-rise, walked_loop, walked-root, walked-met}
+use Rattle.columns.specs.Columns.{shape, delay_at}
+use Rattle.search.specs.Scan.{Walking, Turn, unstamped, ready, walking_start, turn, sums_rise, walked_loop, walked_root, walked_met}
 use Rattle.search.proofs.scan.walk_back.Statement.{statement}
 use Rattle.search.proofs.scan.walk_back.Tie as tie
 use Rattle.search.proofs.scan.walk_back.Reads as reads
@@ -14,7 +14,7 @@ use Rattle.columns.proofs.wide_offset.Reads as wide-offset-reads
 
 abbrev invariant-loop : tie.invariant-loop
 invariant-loop source target offset delay m n par from number stamp₀ delays₀ offsets₀ v₀ a₀ e₀ stamp delays offsets v a e =
-    Walking (shape source target offset m) (delayAt delay) n par from number stamp₀ stamp delays offsets v a e
+    Walking (shape source target offset m) (delay_at delay) n par from number stamp₀ stamp delays offsets v a e
 
 abbrev decreases-loop : tie.decreases-loop
 decreases-loop source target offset delay m n par from number stamp₀ delays₀ offsets₀ v₀ a₀ e₀ stamp delays offsets v a e =
@@ -24,12 +24,12 @@ decreases-loop source target offset delay m n par from number stamp₀ delays₀
 turn-here : (c : lts.Else2 (wide-reads.Asked, wide-reads.Learnt, wide-delay-reads.Asked, wide-delay-reads.Learnt, wide-offset-reads.Asked, wide-offset-reads.Learnt) reads.Pre reads.Post invariant-loop decreases-loop)
     → let l = c.before.before.before.before.before in
     let g = l.before.args in
-    Turn (shape g.source.now g.target.now g.offset.now g.m) (delayAt g.delay.now) g.n g.par.now g.from g.number g.stamp.now l.loop.stamp l.loop.delays l.loop.offsets l.loop.v l.loop.a l.loop.e (c.before.wide.result - 1)
+    Turn (shape g.source.now g.target.now g.offset.now g.m) (delay_at g.delay.now) g.n g.par.now g.from g.number g.stamp.now l.loop.stamp l.loop.delays l.loop.offsets l.loop.v l.loop.a l.loop.e (c.before.wide.result - 1)
 turn-here c =
     let l = c.before.before.before.before.before in
     let s = l.before in
     let g = s.args in
-    turn (shape g.source.now g.target.now g.offset.now g.m) (delayAt g.delay.now) g.n g.par.now
+    turn (shape g.source.now g.target.now g.offset.now g.m) (delay_at g.delay.now) g.n g.par.now
     (ready g.source.now g.target.now g.offset.now g.delay.now g.par.now g.m g.n s.requires.0)
     g.from g.number g.stamp.now g.delays.now g.offsets.now s.requires.1 l.loop.stamp l.loop.delays l.loop.offsets l.loop.v l.loop.a l.loop.e
     c.before.wide.result l.loop.invariant c.before.before.before.if1.true c.before.wide.ensures (omega arith)
@@ -37,7 +37,7 @@ turn-here c =
 loop-holds : tie.Need-loop-init invariant-loop decreases-loop
 loop-holds c =
     let g = c.args in
-    walking_start (shape g.source.now g.target.now g.offset.now g.m) (delayAt g.delay.now) g.n g.par.now
+    walking_start (shape g.source.now g.target.now g.offset.now g.m) (delay_at g.delay.now) g.n g.par.now
     g.from g.number g.stamp.now g.delays.now g.offsets.now c.requires.1
 
 mul-if1 : tie.Need-overflow-mul-if1 invariant-loop decreases-loop
@@ -60,7 +60,7 @@ returns c =
     let l = c.before.before.before.before.before in
     let s = l.before in
     let g = s.args in
-    walked-root (shape g.source.now g.target.now g.offset.now g.m) (delayAt g.delay.now) g.n g.par.now
+    walked_root (shape g.source.now g.target.now g.offset.now g.m) (delay_at g.delay.now) g.n g.par.now
     g.from g.number g.stamp.now l.loop.stamp l.loop.delays l.loop.offsets l.loop.v l.loop.a l.loop.e l.loop.invariant
     s.requires.1.above (omega arith)
 
@@ -86,28 +86,28 @@ sub-r : tie.Need-overflow-sub-r invariant-loop decreases-loop
 sub-r c = omega arith
 
 mul-a : tie.Need-overflow-mul-a invariant-loop decreases-loop
-mul-a c = omega (arith, (turn-here c).is-rule)
+mul-a c = omega (arith, (turn-here c).is_rule)
 
 element-copy-out-a : tie.Need-element-copy-out-a invariant-loop decreases-loop
-element-copy-out-a c = omega (arith, (turn-here c).is-rule)
+element-copy-out-a c = omega (arith, (turn-here c).is_rule)
 
 add_a : tie.Need-overflow-add-a invariant-loop decreases-loop
-add_a c = omega (arith, (turn-here c.before).delay-fits)
+add_a c = omega (arith, (turn-here c.before).delay_fits)
 
 mul-e : tie.Need-overflow-mul-e invariant-loop decreases-loop
-mul-e c = omega (arith, (turn-here c.before).is-rule)
+mul-e c = omega (arith, (turn-here c.before).is_rule)
 
 element-copy-out-e : tie.Need-element-copy-out-e invariant-loop decreases-loop
-element-copy-out-e c = omega (arith, (turn-here c.before).is-rule)
+element-copy-out-e c = omega (arith, (turn-here c.before).is_rule)
 
 add-e : tie.Need-overflow-add-e invariant-loop decreases-loop
-add-e c = omega (arith, (turn-here c.before.before).offset-fits)
+add-e c = omega (arith, (turn-here c.before.before).offset_fits)
 
 mul-wide-2 : tie.Need-overflow-mul-wide-2 invariant-loop decreases-loop
-mul-wide-2 c = omega (arith, (turn-here c.before.before).is-rule)
+mul-wide-2 c = omega (arith, (turn-here c.before.before).is_rule)
 
 element-copy-out-wide-2 : tie.Need-element-copy-out-wide-2 invariant-loop decreases-loop
-element-copy-out-wide-2 c = omega (arith, (turn-here c.before.before).is-rule)
+element-copy-out-wide-2 c = omega (arith, (turn-here c.before.before).is_rule)
 
 wide-requires-2 : tie.Need-wide-requires-2 invariant-loop decreases-loop
 wide-requires-2 c κs = omega arith
@@ -135,7 +135,7 @@ sub-wide-delay c =
     let l = c.before.before.before.before.before in
     let s = l.before in
     let g = s.args in
-    (sums-rise (shape g.source.now g.target.now g.offset.now g.m) (delayAt g.delay.now) g.n g.par.now
+    (sums_rise (shape g.source.now g.target.now g.offset.now g.m) (delay_at g.delay.now) g.n g.par.now
     g.from g.number g.stamp.now l.loop.stamp l.loop.delays l.loop.offsets l.loop.v l.loop.a l.loop.e l.loop.invariant
     c.before.if3.true).0
 
@@ -153,7 +153,7 @@ sub-wide-offset c =
     let l = c.before.before.before.before.before.before.before in
     let s = l.before in
     let g = s.args in
-    (sums-rise (shape g.source.now g.target.now g.offset.now g.m) (delayAt g.delay.now) g.n g.par.now
+    (sums_rise (shape g.source.now g.target.now g.offset.now g.m) (delay_at g.delay.now) g.n g.par.now
     g.from g.number g.stamp.now l.loop.stamp l.loop.delays l.loop.offsets l.loop.v l.loop.a l.loop.e l.loop.invariant
     c.before.before.before.if3.true).1
 
@@ -165,7 +165,7 @@ returns-2 c =
     let l = c.before.before.before.before.before.before.before.before in
     let s = l.before in
     let g = s.args in
-    walked_loop (shape g.source.now g.target.now g.offset.now g.m) (delayAt g.delay.now) g.n g.par.now
+    walked_loop (shape g.source.now g.target.now g.offset.now g.m) (delay_at g.delay.now) g.n g.par.now
     g.from g.number g.stamp.now l.loop.stamp l.loop.delays l.loop.offsets l.loop.v l.loop.a l.loop.e l.loop.invariant
     s.requires.1.above c.before.before.before.before.if3.true c.before.before.wide-delay.result c.wide-offset.result c.before.before.wide-delay.ensures c.wide-offset.ensures
 
@@ -174,7 +174,7 @@ returns-3 c =
     let l = c.before.before.before.before in
     let s = l.before in
     let g = s.args in
-    walked-met (shape g.source.now g.target.now g.offset.now g.m) (delayAt g.delay.now) g.n g.par.now
+    walked_met (shape g.source.now g.target.now g.offset.now g.m) (delay_at g.delay.now) g.n g.par.now
     g.from g.number g.stamp.now l.loop.stamp l.loop.delays l.loop.offsets l.loop.v l.loop.a l.loop.e l.loop.invariant
     s.requires.1.above (omega arith) c.if3.false
 

@@ -4,18 +4,18 @@ use Prim.Native.Nat.{◌-◌, ◌≤◌}
 use mathlib.Core.Path.{◌≡◌, refl}
 use native.Mathlib.Omega.{arith}
 use borrow.Author.Rules.{rules}
-use Rattle.simulation.specs.Blanks.{Known-to, known_start, known_step, blank-here, blank_none}
+use Rattle.simulation.specs.Blanks.{KnownTo, known_start, known_step, blank_here, blank_none}
 use Rattle.simulation.proofs.known.blank.Statement.{statement}
 use Rattle.simulation.proofs.known.blank.Tie as tie
 
 abbrev invariant-loop : tie.invariant-loop
-invariant-loop t m r₀ r = (m ≡ t.m) × (r ≤ m) × (m ≤ 2048) × Known-to t r
+invariant-loop t m r₀ r = (m ≡ t.m) × (r ≤ m) × (m ≤ 2048) × KnownTo t r
 
 abbrev decreases-loop : tie.decreases-loop
 decreases-loop t m r₀ r = m - r
 
 loop-holds : tie.Need-loop-init invariant-loop decreases-loop
-loop-holds c = (refl, omega arith, c.requires.m-high, known_start c.args.t1)
+loop-holds c = (refl, omega arith, c.requires.m_high, known_start c.args.t1)
 
 mul-rule : tie.Need-overflow-mul-rule invariant-loop decreases-loop
 mul-rule c = omega arith
@@ -29,7 +29,7 @@ enum_told c = search rules
 returns : tie.Need-returns invariant-loop decreases-loop
 returns c =
     let l = c.before.before.before.before in
-    blank-here l.before.args.t1 l.loop.r (omega arith) c.enum_told.given.1 l.loop.invariant.3
+    blank_here l.before.args.t1 l.loop.r (omega arith) c.enum_told.given.1 l.loop.invariant.3
 
 enum-told-2 : tie.Need-enum-told-2 invariant-loop decreases-loop
 enum-told-2 c = search rules
@@ -43,7 +43,7 @@ loop-less c = omega arith
 loop-again : tie.Need-loop-preserved invariant-loop decreases-loop
 loop-again c =
     let l = c.before.before.before.before in
-    (refl, omega arith, l.before.requires.m-high, known_step l.before.args.t1 l.loop.r _ (omega arith) c.enum-told2.given.1 l.loop.invariant.3)
+    (refl, omega arith, l.before.requires.m_high, known_step l.before.args.t1 l.loop.r _ (omega arith) c.enum-told2.given.1 l.loop.invariant.3)
 
 returns-2 : tie.Need-returns-2 invariant-loop decreases-loop
 returns-2 c =

@@ -4,7 +4,7 @@ use Prim.Native.Nat.{◌-◌, ◌≤◌, ◌<◌}
 use mathlib.Core.Path.{◌≡◌}
 use mathlib.Core.Logic.{⊎_elim}
 use native.Mathlib.Omega.{arith}
-use Rattle.simulation.specs.Order.{Stuck, stuck-start, stuck-done, stuck-blocked, found_here, found_none}
+use Rattle.simulation.specs.Order.{Stuck, stuck_start, stuck_done, stuck_blocked, found_here, found_none}
 use Rattle.simulation.proofs.order.next.Statement.{statement}
 use Rattle.simulation.proofs.order.next.Tie as tie
 
@@ -15,7 +15,7 @@ abbrev decreases-loop : tie.decreases-loop
 decreases-loop sources offsets first n done v₀ v = n - v
 
 loop-holds : tie.Need-loop-init invariant-loop decreases-loop
-loop-holds c = (omega arith, stuck-start _ _ _ _)
+loop-holds c = (omega arith, stuck_start _ _ _ _)
 
 mul-if1 : tie.Need-overflow-mul-if1 invariant-loop decreases-loop
 mul-if1 c = omega arith
@@ -52,7 +52,7 @@ ready-requires c κs =
     let to = c.wide2.ensures in
     let bounded = l.before.requires in (
       omega (arith, bounded.ends l.loop.v below),
-      λ j a b. omega (arith, bounded.few, bounded.sources-low l.loop.v j below (omega arith, omega arith)),
+      λ j a b. omega (arith, bounded.few, bounded.sources_low l.loop.v j below (omega arith, omega arith)),
     )
 
 returns : tie.Need-returns invariant-loop decreases-loop
@@ -71,8 +71,8 @@ loop-again c =
     let l = c.before.before.before in (
       omega arith,
       ⊎_elim
-          (λ w. stuck-blocked _ _ _ _ _ _ _ _ w.2.ensures w.4.ensures w.5.ensures l.loop.invariant.1 w.6.left)
-          (λ w. stuck-done _ _ _ _ _ l.loop.invariant.1 (omega arith))
+          (λ w. stuck_blocked _ _ _ _ _ _ _ _ w.2.ensures w.4.ensures w.5.ensures l.loop.invariant.1 w.6.left)
+          (λ w. stuck_done _ _ _ _ _ l.loop.invariant.1 (omega arith))
           c.if1.branch,
     )
 

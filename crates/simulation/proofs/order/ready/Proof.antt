@@ -5,7 +5,7 @@ use mathlib.Core.Path.{ap}
 use mathlib.Core.Logic.{⊎_elim}
 use native.Mathlib.Omega.{arith}
 use lib.ListN.{get_or}
-use Rattle.simulation.specs.Order.{Clear, clear-start, clear_step, ready-clear, ready-blocked}
+use Rattle.simulation.specs.Order.{Clear, clear_start, clear_step, ready_clear, ready_blocked}
 use Rattle.simulation.proofs.order.ready.Statement.{statement}
 use Rattle.simulation.proofs.order.ready.Tie as tie
 
@@ -16,7 +16,7 @@ abbrev decreases-loop : tie.decreases-loop
 decreases-loop sources offsets from to done j₀ j = to - j
 
 loop-holds : tie.Need-loop-init invariant-loop decreases-loop
-loop-holds c = (omega arith, clear-start _ _ _ _)
+loop-holds c = (omega arith, clear_start _ _ _ _)
 
 mul-if1 : tie.Need-overflow-mul-if1 invariant-loop decreases-loop
 mul-if1 c = omega arith
@@ -46,7 +46,7 @@ element-copy-out-if2 c =
 returns : tie.Need-returns invariant-loop decreases-loop
 returns c =
     let l = c.before.before.before.before.before.before.before in
-    ready-blocked _ _ _ _ _ _ _ l.loop.invariant.0 (omega arith) (omega arith) c.before.before.wide.ensures (omega arith)
+    ready_blocked _ _ _ _ _ _ _ l.loop.invariant.0 (omega arith) (omega arith) c.before.before.wide.ensures (omega arith)
 
 add-j : tie.Need-overflow-add-j invariant-loop decreases-loop
 add-j c = omega arith
@@ -60,7 +60,7 @@ loop-again c =
     (omega arith, clear_step _ _ _ _ _ l.loop.invariant.1 (λ z u. ⊎_elim (λ w. omega (arith, ap (λ x. get_or l.before.args.done.now x 0) w.2.ensures)) (λ w. omega arith) c.if1.branch))
 
 returns-2 : tie.Need-returns-2 invariant-loop decreases-loop
-returns-2 c = ready-clear _ _ _ _ _ _ (omega arith) c.before.loop.invariant.1
+returns-2 c = ready_clear _ _ _ _ _ _ (omega arith) c.before.loop.invariant.1
 
 pub ready-spec : {M : Type 1} → statement M
 ready-spec =

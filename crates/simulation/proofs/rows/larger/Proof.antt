@@ -1,7 +1,7 @@
 -- `rows::larger` meets its contract, on each of its three ways.
 -- Assumes nothing.
 use native.Mathlib.Omega.{arith}
-use Rattle.simulation.specs.Rows.{larger-asleep, larger-kept, larger-raised}
+use Rattle.simulation.specs.Rows.{larger_asleep, larger_kept, larger_raised}
 use Rattle.simulation.proofs.rows.larger.Statement.{statement}
 use Rattle.simulation.proofs.rows.larger.Tie as tie
 
@@ -21,13 +21,13 @@ add-asked-2 : tie.Need-overflow-add-asked-2
 add-asked-2 c = omega (arith, c.before.before.requires.low (omega arith))
 
 returns : tie.Need-returns
-returns c = larger-raised _ _ _ _ _ _ _ (omega arith) (omega arith)
+returns c = larger_raised _ _ _ _ _ _ _ (omega arith) (omega arith)
 
 returns-2 : tie.Need-returns-2
-returns-2 c = larger-kept _ _ _ _ _ _ _ (omega arith)
+returns-2 c = larger_kept _ _ _ _ _ _ _ (omega arith)
 
 returns-3 : tie.Need-returns-3
-returns-3 c = larger-asleep _ _ _ _ _ _ _ (omega arith)
+returns-3 c = larger_asleep _ _ _ _ _ _ _ (omega arith)
 
 pub larger-spec : {M : Type 1} → statement M
 larger-spec =

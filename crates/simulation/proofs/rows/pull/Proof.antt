@@ -3,7 +3,7 @@
 use Prim.Native.Nat.{◌-◌, ◌≤◌}
 use mathlib.Core.Path.{◌≡◌}
 use native.Mathlib.Omega.{arith}
-use Rattle.simulation.specs.Rows.{Pulled, pulled-start, pulled-step}
+use Rattle.simulation.specs.Rows.{Pulled, pulled_start, pulled_step}
 use Rattle.simulation.proofs.rows.pull.Statement.{statement}
 use Rattle.simulation.proofs.rows.pull.Tie as tie
 
@@ -14,7 +14,7 @@ abbrev decreases-loop : tie.decreases-loop
 decreases-loop sources offsets delays from to n i times best₀ j₀ best j = to - j
 
 loop-holds : tie.Need-loop-init invariant-loop decreases-loop
-loop-holds c = (omega arith, c.before.requires.rising, pulled-start _ _ _ _ _ _ _)
+loop-holds c = (omega arith, c.before.requires.rising, pulled_start _ _ _ _ _ _ _)
 
 mul-larger : tie.Need-overflow-mul-larger invariant-loop decreases-loop
 mul-larger c = omega arith
@@ -48,7 +48,7 @@ loop-less c = omega arith
 loop-again : tie.Need-loop-preserved invariant-loop decreases-loop
 loop-again c =
     let l = c.before.before.before.before.before in
-    (omega arith, omega arith, pulled-step _ _ _ _ _ _ _ _ _ _ l.loop.invariant.0 l.loop.invariant.2 c.larger.ensures)
+    (omega arith, omega arith, pulled_step _ _ _ _ _ _ _ _ _ _ l.loop.invariant.0 l.loop.invariant.2 c.larger.ensures)
 
 returns : tie.Need-returns invariant-loop decreases-loop
 returns c =

@@ -3,7 +3,7 @@
 use Prim.Native.Nat.{◌-◌, ◌≤◌, ◌<◌}
 use mathlib.Core.Path.{◌≡◌}
 use native.Mathlib.Omega.{arith}
-use Rattle.simulation.specs.Rows.{Going, going_start, asks-all, going_step, row-end}
+use Rattle.simulation.specs.Rows.{Going, going_start, asks_all, going_step, row_end}
 use Rattle.simulation.proofs.rows.row.Statement.{statement}
 use Rattle.simulation.proofs.rows.row.Tie as tie
 
@@ -66,7 +66,7 @@ pull-requires c κs =
     let l = c.before.before.before.before.before.before.before.before in
     let pre = l.before.before.requires in
     let below : l.loop.k < l.before.before.args.n = omega arith in
-    asks-all _ _ _ _ _ _ pre.0 _ _ below _ l.loop.invariant.1.done _ _ _ c.before.before.before.before.before.wide.ensures c.before.before.before.wide2.ensures c.before.wide3.ensures
+    asks_all _ _ _ _ _ _ pre.0 _ _ below _ l.loop.invariant.1.done _ _ _ c.before.before.before.before.before.wide.ensures c.before.before.before.wide2.ensures c.before.wide3.ensures
     pre.1.1.0 (omega (arith, l.loop.invariant.1.size))
 
 mul-times : tie.Need-overflow-mul-times invariant-loop decreases-loop
@@ -116,7 +116,7 @@ returns : tie.Need-returns invariant-loop decreases-loop
 returns c =
     let l = c.before in
     let e : l.loop.k ≡ l.before.before.args.n = omega arith in
-    row-end _ _ _ _ _ _ l.before.before.requires.0 _ _ _ (rw e at l.loop.invariant.1)
+    row_end _ _ _ _ _ _ l.before.before.requires.0 _ _ _ (rw e at l.loop.invariant.1)
 
 pub row-spec : {M : Type 1} → statement M
 row-spec =

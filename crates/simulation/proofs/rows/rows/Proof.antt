@@ -4,7 +4,7 @@ use Prim.Native.Nat.{◌+◌, ◌-◌, ◌≤◌}
 use mathlib.Core.Path.{◌≡◌}
 use native.Mathlib.Omega.{arith}
 use native.Mathlib.Nat.{mul-le-mul_right}
-use Rattle.simulation.specs.Rows.{Begun, begun-start, begun-step, rows_end}
+use Rattle.simulation.specs.Rows.{Begun, begun_start, begun_step, rows_end}
 use Rattle.simulation.proofs.rows.rows.Statement.{statement}
 use Rattle.simulation.proofs.rows.rows.Tie as tie
 
@@ -15,7 +15,7 @@ abbrev decreases-loop : tie.decreases-loop
 decreases-loop sources offsets delays first order n count times₀ i₀ times i = count - i
 
 loop-holds : tie.Need-loop-init invariant-loop decreases-loop
-loop-holds c = (omega arith, begun-start _ _ _ _ _ _ _)
+loop-holds c = (omega arith, begun_start _ _ _ _ _ _ _)
 
 row-requires : tie.Need-row-requires invariant-loop decreases-loop
 row-requires c κs =
@@ -33,7 +33,7 @@ loop-less c = omega arith
 loop-again : tie.Need-loop-preserved invariant-loop decreases-loop
 loop-again c =
     let l = c.before.before.before.before.before in
-    (omega arith, begun-step _ _ _ _ _ _ _ _ _ _ l.loop.invariant.1 c.before.before.row.ensures)
+    (omega arith, begun_step _ _ _ _ _ _ _ _ _ _ l.loop.invariant.1 c.before.before.row.ensures)
 
 same_length : tie.Need-same-length invariant-loop decreases-loop
 same_length c = c.before.loop.invariant.1.size

@@ -19,7 +19,7 @@ same-length-2 : tie.Need-same-length-2
 same-length-2 c = search rules
 
 returns-2 : tie.Need-returns-2
-returns-2 c = rw c.before.before.before.before.if1.false c.before.before.range-line.ensures
+returns-2 c = rw c.before.before.before.before.if1.false c.before.before.range_line_lem.ensures
 
 pub period-line-spec : {M : Type 1} → statement M
 period-line-spec =

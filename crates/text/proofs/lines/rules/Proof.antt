@@ -6,8 +6,8 @@ use lib.ListN.{length, take}
 use native.Mathlib.Omega.{arith}
 use mathlib.Core.List.{[], ◌∷◌}
 use lib.Seq.{take_all}
-use Rattle.words.specs.Decimal.{numbers, numbers-append}
-use Rattle.words.specs.Puts.{Puts, puts_none, puts-next, puts-length, puts-same}
+use Rattle.words.specs.Decimal.{numbers, numbers_append}
+use Rattle.words.specs.Puts.{Puts, puts_none, puts_next, puts_length, puts_same}
 use borrow.Author.Rules.{rules}
 use Rattle.text.proofs.lines.rules.Statement.{statement}
 use Rattle.text.proofs.lines.rules.Tie as tie
@@ -44,15 +44,15 @@ loop-again c =
     let l = c.before.before.before.before.before.before.before in
     let xs = l.before.before.before.args.xs.now in
     let sum = c.before.before.number.ensures.1 in
-    (omega arith, puts-next numbers xs l.loop.i (λ x. numbers-append (take l.loop.i xs) (x ∷ [])) (omega arith) l.loop.invariant.1 (puts-same (ap (λ (x : ℕ). numbers (x ∷ [])) c.before.before.before.before.wide.ensures) c.before.before.number.ensures.0), omega arith)
+    (omega arith, puts_next numbers xs l.loop.i (λ x. numbers_append (take l.loop.i xs) (x ∷ [])) (omega arith) l.loop.invariant.1 (puts_same (ap (λ (x : ℕ). numbers (x ∷ [])) c.before.before.before.before.wide.ensures) c.before.before.number.ensures.0), omega arith)
 
 same_length : tie.Need-same-length invariant-loop decreases-loop
-same_length c = puts-length c.before.loop.invariant.1
+same_length c = puts_length c.before.loop.invariant.1
 
 returns : tie.Need-returns invariant-loop decreases-loop
 returns c =
     let l = c.before in
-    (puts-same (ap numbers (take_all l.loop.i l.before.before.before.args.xs.now (omega arith))) l.loop.invariant.1, omega arith)
+    (puts_same (ap numbers (take_all l.loop.i l.before.before.before.args.xs.now (omega arith))) l.loop.invariant.1, omega arith)
 
 pub rules-spec : {M : Type 1} → statement M
 rules-spec =

@@ -2,8 +2,8 @@
 use mathlib.Core.Path.{sym}
 use mathlib.Core.List.{[], ◌∷◌}
 use native.Mathlib.Omega.{arith}
-use Rattle.words.specs.Decimal.{numbers-append}
-use Rattle.words.specs.Puts.{puts_then, puts-same}
+use Rattle.words.specs.Decimal.{numbers_append}
+use Rattle.words.specs.Puts.{puts_then, puts_same}
 use borrow.Author.Rules.{rules}
 use Rattle.text.proofs.lines.schedule_line.Statement.{statement}
 use Rattle.text.proofs.lines.schedule_line.Tie as tie
@@ -32,8 +32,8 @@ returns c =
     let q = c.before.before.before.before.before.before.before.before.before.before.number.ensures in
     let values = c.before.before.before.before.before.before.values.ensures in
     let end = c.before.before.byte.ensures in
-    let xs = numbers-append (c.before.before.before.before.before.before.before.before.before.before.before.before.before.before.before.before.before.before.before.args.q ∷ []) c.before.before.before.before.before.before.before.before.before.before.before.before.before.before.before.before.before.before.before.args.x.now in
-    (puts_then name (puts_then (puts-same (sym xs) (puts_then q.0 values.0)) end), omega (arith, name.place, q.1, values.1, end.place))
+    let xs = numbers_append (c.before.before.before.before.before.before.before.before.before.before.before.before.before.before.before.before.before.before.before.args.q ∷ []) c.before.before.before.before.before.before.before.before.before.before.before.before.before.before.before.before.before.before.before.args.x.now in
+    (puts_then name (puts_then (puts_same (sym xs) (puts_then q.0 values.0)) end), omega (arith, name.place, q.1, values.1, end.place))
 
 pub schedule-line-spec : {M : Type 1} → statement M
 schedule-line-spec =
