@@ -1,5 +1,6 @@
 // Reads the two rule files that its arguments name and prints what is known of each, and which is the better. No valid file is longer than 16,388
 // bytes, so that the first 16,389 of each decide (pair_first).
+#![tactic(auto)]
 
 // Opens the file that argument i names; where it cannot, it says why on standard error and hands back -1.
 fn opened(i: usize) -> i32 {

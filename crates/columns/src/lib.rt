@@ -1,4 +1,5 @@
 // A table within its limits as columns of numbers, made once: the engine lends these and never the table.
+#![tactic(auto)]
 ghost use Rattle.std.specs.Prelude.{◌≡◌};
 ghost use Rattle.model.specs.Filling.{least_of, greatest_of};
 ghost use Rattle.table.specs.Limits.{max_delay};

@@ -1,4 +1,5 @@
 // The calls that C links, over a table handed in as columns of numbers or as the bytes of a rule file. include/period.h declares them.
+#![tactic(auto)]
 mod calls;
 
 ghost use Rattle.std.specs.Prelude.{◌≡◌};

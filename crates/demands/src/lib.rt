@@ -1,1 +1,2 @@
 // No code: the buyer's demands as theorems about the promises stand in specs/.
+#![tactic(auto)]

@@ -1,4 +1,5 @@
 // The engine: the lap of a table, and whether a loop of it has no turn. What works on columns is in the crates `columns`, `search`, `peel` and `loops`.
+#![tactic(auto)]
 mod laps;
 
 ghost use Rattle.engine.specs.Lap.{LapOf};

@@ -1,1 +1,2 @@
 // No code: what a reader must believe of the period tool stands in specs/, one noun a file.
+#![tactic(auto)]

@@ -1,4 +1,5 @@
 // The rate of a transition of a table: the two ends of the period of the loops that reach it.
+#![tactic(auto)]
 mod ends;
 mod reach;
 

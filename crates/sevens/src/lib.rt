@@ -1,4 +1,6 @@
 // Numbers in groups of seven bits: one read off the front of lent bytes, one written into a lent buffer.
+#![tactic(auto)]
+
 ghost use Rattle.std.specs.Prelude.{[], ◌≡◌, ◌+◌, ◌≤◌, ◌<◌, length, get_or};
 ghost use Rattle.sevens.specs.Sevens.{raw_of, cut_place_of, long_place_of, Read, code_length_of, put_of};
 

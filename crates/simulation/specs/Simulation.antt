@@ -10,7 +10,8 @@
 -- Theorem: simulation_unique (a single outcome).
 use Rattle.std.specs.Prelude.{◌≡◌, refl, ◌⊎◌, List, ℕ, ◌*◌, ◌≤◌, ◌<◌, length, get_or}
 use Rattle.std.proofs.Common.{sym, ap, ◌∙◌, inl, inr, ⊎_elim, arith}
-use Rattle.std.proofs.Math.Logic.{by_cases, Dec·and}
+use Rattle.std.proofs.Math.Logic.{by_cases}
+use Rattle.std.proofs.Math.Logic.Dec
 use Rattle.std.proofs.Math.Decide.{dec_le, dec_lt}
 use Rattle.model.specs.Loop.{Live}
 use Rattle.model.specs.Knot.{Knot}
@@ -69,7 +70,7 @@ unknown_dec Unknown = yes refl
 unknown_dec (Known d) = no (λ e. let z : ◌≡◌ {A = ℕ} 0 1 = cc in omega arith)
 
 blank_dec : (t : Table) (r : ℕ) → Dec (Blank t r)
-blank_dec t r = Dec·and (dec_lt r t.m) (unknown_dec (get_or (used t) r unused_rule).delay)
+blank_dec t r = Dec.and (dec_lt r t.m) (unknown_dec (get_or (used t) r unused_rule).delay)
 
 -- no blank, or a lowest
 pub no_or_first_blank : (t : Table) → NoBlank t ⊎ ((r : ℕ) × FirstBlank t r)
@@ -119,4 +120,4 @@ module _ (t : Table) (N : ℕ) (out₀ : List ℕ) (r s : Simulated) (out out' :
       known w n = ⊎_elim (roomy w n) (λ q. refused_same 7 q.0 (a.unknown w n q.0 q.1) (b.unknown w n q.0 q.1)) (no_or_first_blank t)
 
       within : Within t → Same r s out out'
-      within w = by_cases (Dec·and (dec_le min_occurrences N) (dec_le N max_occurrences)) (known w) (λ d. refused_same 9 0 (a.span w d) (b.span w d))
+      within w = by_cases (Dec.and (dec_le min_occurrences N) (dec_le N max_occurrences)) (known w) (λ d. refused_same 9 0 (a.span w d) (b.span w d))

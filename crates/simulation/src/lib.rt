@@ -1,4 +1,5 @@
 // The timing simulation of a table: the rules grouped by target, an order of the transitions found once, and one pull along it for each occurrence.
+#![tactic(auto)]
 mod group;
 mod known;
 mod order;

@@ -14,7 +14,8 @@
 use Prim.{Unit, tt}
 use Rattle.std.specs.Prelude.{◌⊎◌, ◌≡◌, ℕ, zero, suc, ◌+◌, ◌-◌, ◌*◌, ◌/◌, ◌%◌, ◌≤◌, ◌<◌}
 use Rattle.std.proofs.Common.{inl, inr, ⊎_elim, ap, sym, ◌∙◌, subst, arith}
-use Rattle.std.proofs.Math.Logic.{by_cases, Dec·and}
+use Rattle.std.proofs.Math.Logic.{by_cases}
+use Rattle.std.proofs.Math.Logic.Dec
 use Rattle.std.proofs.Math.Decide.{ℕ_discrete, dec_lt, dec_le}
 use Rattle.table.specs.Limits.{min_n, max_n, max_m, max_offset, max_delay}
 use Rattle.table.specs.Form.{rule_of}
@@ -227,7 +228,7 @@ rule_dec n x (suc (suc zero)) = dec_le x.offset max_offset
 rule_dec n x (suc (suc (suc j))) = delay_dec x.delay
 
 ok_dec : (t : Table) (k : ℕ) → Dec (Ok t k)
-ok_dec t zero = Dec·and (dec_le min_n t.n) (dec_le t.n max_n)
+ok_dec t zero = Dec.and (dec_le min_n t.n) (dec_le t.n max_n)
 ok_dec t (suc zero) = dec_le t.m max_m
 ok_dec t (suc (suc k)) = rule_dec t.n (rule_of t (k / 4)) (k % 4)
 

@@ -1,4 +1,5 @@
 // A table of transitions and rules, its limits, and the check of a table handed in.
+#![tactic(auto)]
 ghost use Rattle.std.specs.Prelude.{◌≡◌, ◌+◌, ◌*◌, ◌<◌};
 ghost use Rattle.table.specs.Limits.{min_n, max_n, max_m, max_offset, max_delay, min_occurrences, max_occurrences};
 ghost use Rattle.table.specs.Form.{empty_table};

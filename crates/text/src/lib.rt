@@ -1,4 +1,5 @@
 // The text that the program `report` prints for the bytes of a rule file.
+#![tactic(auto)]
 mod lines;
 
 ghost use Rattle.words.specs.Lines.{refused_line_of};

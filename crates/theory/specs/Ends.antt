@@ -15,7 +15,8 @@
 --   high_keeps                    a schedule of the greatest delays keeps every rule under every filling
 use Rattle.std.specs.Prelude.{◌≡◌, refl, Bool, true, false, List, ℕ, ◌*◌, ◌≤◌, ◌<◌}
 use Rattle.std.proofs.Common.{sym, ◌∙◌, inl, inr, arith, le_antisymm, le_of_eq}
-use Rattle.std.proofs.Math.Logic.{by_cases, Dec·and}
+use Rattle.std.proofs.Math.Logic.{by_cases}
+use Rattle.std.proofs.Math.Logic.Dec
 use Rattle.std.proofs.Math.Decide.{ℕ_discrete}
 use Rattle.model.specs.Shape.{Shape}
 use Rattle.model.specs.Ratio.{Lowest}
@@ -43,7 +44,7 @@ exact_unique p q P Q (inl x) (inr y) = absurd (y.0 (sym p ∙ x.0 ∙ P, sym q �
 exact_unique p q P Q (inr x) (inl y) = absurd (x.0 (p ∙ y.0 ∙ sym P, q ∙ y.1 ∙ sym Q))
 
 pub exact_exists : (p q P Q : ℕ) → (e : Bool) × Exact p q P Q e
-exact_exists p q P Q = by_cases (Dec·and (ℕ_discrete p P) (ℕ_discrete q Q)) (λ s. (true, inl (s.0, s.1, refl {a = true}))) (λ d. (false, inr (d, refl {a = false})))
+exact_exists p q P Q = by_cases (Dec.and (ℕ_discrete p P) (ℕ_discrete q Q)) (λ s. (true, inl (s.0, s.1, refl {a = true}))) (λ d. (false, inr (d, refl {a = false})))
 
 same : {p q P Q p' q' P' Q' : ℕ} {e e' : Bool} → p ≡ p' → q ≡ q' → P ≡ P' → Q ≡ Q' → e ≡ e'
     → ◌≡◌ {A = Range} (record { low_p = p; low_q = q; high_p = P; high_q = Q; exact = e }) (record { low_p = p'; low_q = q'; high_p = P'; high_q = Q'; exact = e' })

@@ -1,5 +1,6 @@
 // What the programs' texts share: a text, and putting words and numbers into a lent buffer, from a place on. Each function hands back the place
 // behind what it put; what has no room is left out, so that none asks anything of its caller. Where a bound is promised, it is on what was taken.
+#![tactic(auto)]
 ghost use Rattle.std.specs.Prelude.{◌≡◌, [], ◌∷◌, ◌+◌, ◌≤◌, ◌<◌};
 ghost use Rattle.words.specs.Decimal.{numbers};
 ghost use Rattle.words.specs.Decimal.{digit as Decimal·digit, decimal as Decimal·decimal};
