@@ -5,14 +5,14 @@ ghost use Rattle.bids.specs.Promise.{refused_bid, choice_of, BidOf, LaidOf, Bett
 ghost use Rattle.bids.specs.Steps.{Small};
 
 // A ratio in lowest terms.
-#[derive(Drop)]
+#[derive(Clone, Copy)]
 pub struct Ratio {
     pub p: u64,
     pub q: u64,
 }
 
 // What is known of a bid. Refused: number and place, and all else 0. Else both ends, and whether they meet.
-#[derive(Drop)]
+#[derive(Clone, Copy)]
 pub struct Bid {
     pub refusal: u32,
     pub place: usize,
@@ -22,7 +22,7 @@ pub struct Bid {
 }
 
 // The better of two bids; neither, where neither can be analysed.
-#[derive(Drop)]
+#[derive(Clone, Copy)]
 pub enum Choice {
     Neither,
     First,
@@ -30,7 +30,7 @@ pub enum Choice {
 }
 
 // Two bids side by side, and the better one.
-#[derive(Drop)]
+#[derive(Clone, Copy)]
 pub struct Laid {
     pub first: Bid,
     pub second: Bid,

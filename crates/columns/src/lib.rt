@@ -1,5 +1,6 @@
 // A table within its limits as columns of numbers, made once: the engine lends these and never the table.
 #![tactic(auto)]
+
 ghost use Rattle.std.specs.Prelude.{◌≡◌};
 ghost use Rattle.model.specs.Filling.{least_of, greatest_of};
 ghost use Rattle.table.specs.Limits.{max_delay};
@@ -9,7 +10,7 @@ ghost use Rattle.columns.specs.Lay.{Laid};
 
 use table::{Delay, Rule, Table};
 
-#[derive(Drop)]
+#[derive(Clone, Copy)]
 pub struct Columns {
     pub source: [u16; 2048],
     pub target: [u16; 2048],
@@ -19,7 +20,7 @@ pub struct Columns {
     pub blank: bool,
 }
 
-#[derive(Drop)]
+#[derive(Clone, Copy)]
 struct May {
     least: u32,
     greatest: u32,
@@ -42,7 +43,7 @@ fn may_be(delay: Delay) -> May
 }
 
 // A rule as the columns hold it.
-#[derive(Drop)]
+#[derive(Clone, Copy)]
 struct Row {
     source: u16,
     target: u16,

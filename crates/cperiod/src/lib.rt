@@ -11,7 +11,7 @@ use handed::PeriodTable;
 
 // Refused: number and place, and all else 0. `exact` is 0 or 1.
 #[repr(C)]
-#[derive(Drop)]
+#[derive(Clone, Copy)]
 pub struct PeriodAnalysis {
     pub refusal: u32,
     pub exact: u32,
@@ -26,7 +26,7 @@ pub struct PeriodAnalysis {
 
 // Likewise.
 #[repr(C)]
-#[derive(Drop)]
+#[derive(Clone, Copy)]
 pub struct PeriodRate {
     pub refusal: u32,
     pub exact: u32,
@@ -39,7 +39,7 @@ pub struct PeriodRate {
 
 // Refused: number and place, and 0. Else 0, 0 and how many bytes were written.
 #[repr(C)]
-#[derive(Drop)]
+#[derive(Clone, Copy)]
 pub struct PeriodCount {
     pub refusal: u32,
     pub place: usize,
@@ -48,7 +48,7 @@ pub struct PeriodCount {
 
 // 0 and 0, or a number of refusal and its place.
 #[repr(C)]
-#[derive(Drop)]
+#[derive(Clone, Copy)]
 pub struct PeriodStatus {
     pub refusal: u32,
     pub place: usize,
@@ -56,7 +56,7 @@ pub struct PeriodStatus {
 
 // Refused: number and place, and 0, 0. Else the value, and how many bytes are left after it.
 #[repr(C)]
-#[derive(Drop)]
+#[derive(Clone, Copy)]
 pub struct PeriodNumber {
     pub refusal: u32,
     pub value: u32,
@@ -66,7 +66,7 @@ pub struct PeriodNumber {
 
 // The better of two files: which of the two, 0 or 1, and how many bytes of it from its start on. Refused: the first file's number and place, and 0, 0.
 #[repr(C)]
-#[derive(Drop)]
+#[derive(Clone, Copy)]
 pub struct PeriodBids {
     pub refusal: u32,
     pub which: u32,

@@ -10,7 +10,7 @@ ghost use Rattle.distances.specs.Queue.{Noted, Searching, Looking, Sought};
 use columns::wide;
 
 // How far each transition is from one of them, and how many were found; the others are FAR.
-#[derive(Drop)]
+#[derive(Clone, Copy)]
 pub struct Distances {
     pub dist: [u16; 256],
     pub count: usize,

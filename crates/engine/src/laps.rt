@@ -51,7 +51,7 @@ fn numbers(rules: [u16; 256], len: usize) -> [u32; 256]
 }
 
 // One side as the search leaves it: its ratio, its loop (the first len of rules) and the values x.
-#[derive(Drop)]
+#[derive(Clone, Copy)]
 struct Side {
     p: u64,
     q: u64,

@@ -11,7 +11,7 @@ use table::Table;
 pub use laps::{FLAT, LOOP, meet};
 
 // One end: its ratio in lowest terms, and its loop, the first `len` places of `rules`; the others hold 0.
-#[derive(Drop)]
+#[derive(Clone, Copy)]
 pub struct End {
     pub p: u64,
     pub q: u64,
@@ -20,7 +20,7 @@ pub struct End {
 }
 
 // Refused: number and place, and all else 0. Else both ends, whether they meet, and the schedule; past the last transition it holds 0.
-#[derive(Drop)]
+#[derive(Clone, Copy)]
 pub struct Lap {
     pub refusal: u32,
     pub place: usize,
@@ -52,7 +52,7 @@ pub fn measure(t: Table) -> Lap
 }
 
 // Refused 3 at a field outside its limits, or 5 at the lowest transition on a loop without a turn; 0 and 0 where every loop turns.
-#[derive(Drop)]
+#[derive(Clone, Copy)]
 pub struct Turned {
     pub refusal: u32,
     pub place: usize,

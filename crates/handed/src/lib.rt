@@ -9,7 +9,7 @@ use table::{Delay, Rule, Table};
 const ROOM: u32 = 8;
 
 // A table handed in: a refusal, its place and the empty table; or 0, 0 and the table.
-#[derive(Drop)]
+#[derive(Clone, Copy)]
 pub struct Handed {
     pub refusal: u32,
     pub place: usize,
@@ -18,7 +18,7 @@ pub struct Handed {
 
 // Refused: number and place, and 0, 0. Else 0, 0, and the counts of transitions and rules. C gets it as it is.
 #[repr(C)]
-#[derive(Drop)]
+#[derive(Clone, Copy)]
 pub struct PeriodTable {
     pub refusal: u32,
     pub place: usize,

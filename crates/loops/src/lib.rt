@@ -13,14 +13,14 @@ ghost use Rattle.loops.specs.Found.{numbers, Ready, FoundIn, FoundFirst};
 use columns::{wide, wide_delay, wide_offset};
 
 // The rules of a kind, by number, lowest first.
-#[derive(Drop)]
+#[derive(Clone, Copy)]
 struct Kind {
     rules: [u16; 2048],
     len: usize,
 }
 
 // A loop of `len` rules, read from transition `at`: none where `len` is 0.
-#[derive(Drop)]
+#[derive(Clone, Copy)]
 pub struct Found {
     pub len: usize,
     pub at: usize,

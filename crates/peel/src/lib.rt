@@ -10,7 +10,7 @@ ghost use Rattle.peel.specs.Peeling.{Tallied, Waiting, Lessened, Spread, StruckN
 use columns::wide;
 
 // The transitions that remain (1) and those struck (0), and how many were struck.
-#[derive(Drop)]
+#[derive(Clone, Copy)]
 pub struct Remnant {
     pub alive: [u8; 256],
     pub count: usize,

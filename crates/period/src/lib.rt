@@ -7,7 +7,7 @@ pub use rates::rate;
 use table::Table;
 
 // One end: its ratio in lowest terms, and the length of its loop.
-#[derive(Drop)]
+#[derive(Clone, Copy)]
 pub struct End {
     pub p: u64,
     pub q: u64,
@@ -15,7 +15,7 @@ pub struct End {
 }
 
 // Refused: number and place, and all else 0.
-#[derive(Drop)]
+#[derive(Clone, Copy)]
 pub struct Analysis {
     pub refusal: u32,
     pub place: usize,

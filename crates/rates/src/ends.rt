@@ -21,7 +21,7 @@ pub fn unrated(refusal: u32, place: usize) -> Rated
 }
 
 // A ratio in lowest terms, where there is a loop.
-#[derive(Drop)]
+#[derive(Clone, Copy)]
 struct Pace {
     found: bool,
     p: u64,

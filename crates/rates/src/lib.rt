@@ -8,14 +8,14 @@ ghost use Rattle.rates.specs.Rate.{RateOf};
 use table::Table;
 
 // A ratio in lowest terms.
-#[derive(Drop)]
+#[derive(Clone, Copy)]
 pub struct Ratio {
     pub p: u64,
     pub q: u64,
 }
 
 // Refused: number and place, and all else 0. Else the two ends of a transition's rate, and whether they meet.
-#[derive(Drop)]
+#[derive(Clone, Copy)]
 pub struct Rated {
     pub refusal: u32,
     pub place: usize,

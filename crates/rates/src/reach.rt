@@ -23,7 +23,7 @@ fn counts(t: usize, v: usize, dist: u16) -> usize
 }
 
 // Some of the rules: the first `len` places of each column.
-#[derive(Drop)]
+#[derive(Clone, Copy)]
 struct Kept {
     source: [u16; 2048],
     target: [u16; 2048],

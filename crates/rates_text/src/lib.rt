@@ -51,7 +51,7 @@ pub fn rate(bytes: &[u8], v: usize) -> Text
 }
 
 // The rates of all transitions of a file: the first n of them. None where reading refuses the file.
-#[derive(Drop)]
+#[derive(Clone, Copy)]
 pub struct Listing {
     pub n: usize,
     pub rates: [Rated; 256],

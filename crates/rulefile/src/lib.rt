@@ -15,7 +15,7 @@ const TAIL: u32 = 4;
 const ROOM: u32 = 8;
 
 // What reading a file hands back: a refusal, its place and the empty table; or 0, 0 and the table.
-#[derive(Drop)]
+#[derive(Clone, Copy)]
 pub struct FileRead {
     pub refusal: u32,
     pub place: usize,
@@ -23,7 +23,7 @@ pub struct FileRead {
 }
 
 // What writing a file hands back: a refusal, its place and 0; or 0, 0 and the count of bytes written.
-#[derive(Drop)]
+#[derive(Clone, Copy)]
 pub struct Written {
     pub refusal: u32,
     pub place: usize,
@@ -31,7 +31,7 @@ pub struct Written {
 }
 
 // A number at a place of the file: a refusal and its place; or its value and the place after it.
-#[derive(Drop)]
+#[derive(Clone, Copy)]
 struct Num {
     refusal: u32,
     place: usize,
@@ -40,7 +40,7 @@ struct Num {
 }
 
 // A rule at a place of the file, likewise.
-#[derive(Drop)]
+#[derive(Clone, Copy)]
 struct RuleRead {
     refusal: u32,
     place: usize,

@@ -53,7 +53,7 @@ fn bid(i: usize, s: u16, t: u16, e: u16, a: u32, most: &mut [u64; 256], par: &mu
 }
 
 // The parents so chosen, and a closed walk of them, where there is one.
-#[derive(Drop)]
+#[derive(Clone, Copy)]
 pub struct Parents {
     pub met: Met,
     pub par: [u16; 256],

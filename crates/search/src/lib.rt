@@ -120,7 +120,7 @@ fn follow(
 }
 
 // How the search at one ratio ended: with the values x, or with a closed walk above the ratio; and the parents.
-#[derive(Drop)]
+#[derive(Clone, Copy)]
 struct Search {
     met: Met,
     x: [u64; 256],
@@ -198,7 +198,7 @@ fn gcd(a: u64, b: u64) -> u64
     x
 }
 
-#[derive(Drop)]
+#[derive(Clone, Copy)]
 struct Ratio {
     p: u64,
     q: u64,
@@ -214,7 +214,7 @@ fn quotient(a: u64, e: u64) -> Ratio
 }
 
 // The ratio at which the climb ended, in lowest terms, whether it is a closed walk's that was found, and the least values that keep every rule there.
-#[derive(Drop)]
+#[derive(Clone, Copy)]
 pub struct Top {
     pub found: bool,
     pub p: u64,

@@ -8,7 +8,7 @@ use columns::wide;
 
 // The rules that leave each transition, linked: `first` and `next` hold 1 more than a rule's number, and 0 for none.
 // `waits` counts the rules of offset 0 that enter each.
-#[derive(Drop)]
+#[derive(Clone, Copy)]
 struct Links {
     first: [u16; 256],
     next: [u16; 2048],
@@ -17,14 +17,14 @@ struct Links {
 
 // The transitions that wait for nothing, in the order in which they came to it: the first `end` places of `list`.
 // What stands past those counts for nothing.
-#[derive(Drop)]
+#[derive(Clone, Copy)]
 struct Queue {
     list: [u16; 256],
     end: usize,
 }
 
 // How many rules are listed, and where the queue ends.
-#[derive(Drop)]
+#[derive(Clone, Copy)]
 struct Counts {
     len: usize,
     end: usize,
@@ -196,7 +196,7 @@ pub fn order(
 }
 
 // Rules by number: the first `len` places of `rules`.
-#[derive(Drop)]
+#[derive(Clone, Copy)]
 pub struct List {
     pub rules: [u16; 2048],
     pub len: usize,

@@ -6,7 +6,7 @@ ghost use Rattle.search.specs.Scan.{Fresh, Walked, Low, Kept};
 use columns::{wide, wide_delay, wide_offset};
 
 // A closed walk of parents by its sums, where one was found.
-#[derive(Drop)]
+#[derive(Clone, Copy)]
 pub struct Met {
     pub found: bool,
     pub delays: u64,

@@ -14,7 +14,7 @@ pub const LONG: u32 = 2;
 pub const RANGE: u32 = 3;
 
 // One number as written: a byte is missing, it is not written as it should be, or its value and its size in bytes.
-#[derive(Drop)]
+#[derive(Clone, Copy)]
 pub enum Raw {
     Cut,
     Long,

@@ -12,7 +12,7 @@ ghost use Rattle.simulation.specs.Refusals.{Judgement};
 use table::Table;
 
 // 0 and 0, or a number of refusal and its place.
-#[derive(Drop)]
+#[derive(Clone, Copy)]
 pub struct Simulated {
     pub refusal: u32,
     pub place: usize,

@@ -1,18 +1,19 @@
 // A table of transitions and rules, its limits, and the check of a table handed in.
 #![tactic(auto)]
+
 ghost use Rattle.std.specs.Prelude.{◌≡◌, ◌+◌, ◌*◌, ◌<◌};
 ghost use Rattle.table.specs.Limits.{min_n, max_n, max_m, max_offset, max_delay, min_occurrences, max_occurrences};
 ghost use Rattle.table.specs.Form.{empty_table};
 ghost use Rattle.table.specs.Fields.{FirstIn, Judged};
 
 // A delay is known, with its value, or unknown. Unknown stands first: then the value that the checker takes for a missing rule is the unused rule.
-#[derive(Drop)]
+#[derive(Clone, Copy)]
 pub enum Delay {
     Unknown,
     Known(u32),
 }
 
-#[derive(Drop)]
+#[derive(Clone, Copy)]
 pub struct Rule {
     pub source: u16,
     pub target: u16,
@@ -21,7 +22,7 @@ pub struct Rule {
 }
 
 // The first m places hold the rules; what lies in the others is never looked at.
-#[derive(Drop)]
+#[derive(Clone, Copy)]
 pub struct Table {
     pub n: usize,
     pub m: usize,
@@ -63,13 +64,13 @@ impl Table {
 
 // Does nothing: its promise ties each constant of the table to the name that the definitions quote.
 fn limits()
-    ensures* fact { do ⌜ ((← (⟦Table::MIN_N⟧).entry) ≡ min_n) × ((← (⟦Table::MAX_N⟧).entry) ≡ max_n) × ((← (⟦Table::MAX_M⟧).entry) ≡ max_m) ⌝ }
-    ensures* fact_2 { do ⌜ ((← (⟦Table::MAX_OFFSET⟧).entry) ≡ max_offset) × ((← (⟦Table::MAX_DELAY⟧).entry) ≡ max_delay) ⌝ }
-    ensures* fact_3 { do ⌜ ((← (⟦Table::MIN_OCCURRENCES⟧).entry) ≡ min_occurrences) × ((← (⟦Table::MAX_OCCURRENCES⟧).entry) ≡ max_occurrences) ⌝ }
+    ensures counts { (Table.MIN_N ≡ min_n) × (Table.MAX_N ≡ max_n) × (Table.MAX_M ≡ max_m) }
+    ensures fields { (Table.MAX_OFFSET ≡ max_offset) × (Table.MAX_DELAY ≡ max_delay) }
+    ensures occurrences { (Table.MIN_OCCURRENCES ≡ min_occurrences) × (Table.MAX_OCCURRENCES ≡ max_occurrences) }
 {}
 
 // What the check of a table hands back: 0 and 0, or 3 and the first field outside its limits, counted in file order.
-#[derive(Drop)]
+#[derive(Clone, Copy)]
 pub struct Checked {
     pub refusal: u32,
     pub place: usize,

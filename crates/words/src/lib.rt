@@ -1,6 +1,7 @@
 // What the programs' texts share: a text, and putting words and numbers into a lent buffer, from a place on. Each function hands back the place
 // behind what it put; what has no room is left out, so that none asks anything of its caller. Where a bound is promised, it is on what was taken.
 #![tactic(auto)]
+
 ghost use Rattle.std.specs.Prelude.{◌≡◌, [], ◌∷◌, ◌+◌, ◌≤◌, ◌<◌};
 ghost use Rattle.words.specs.Decimal.{numbers};
 ghost use Rattle.words.specs.Decimal.{digit as Decimal·digit, decimal as Decimal·decimal};
@@ -9,7 +10,7 @@ ghost use Rattle.words.specs.Lines.{refused_words_of, refused_line_of, exact_lin
 ghost use Rattle.words.specs.Lines.{ratio as Lines·ratio};
 
 // A text: its length and its bytes, zeros after them. No text takes all the room.
-#[derive(Drop)]
+#[derive(Clone, Copy)]
 pub struct Text {
     pub len: usize,
     pub bytes: [u8; Text::ROOM],
