@@ -3,7 +3,7 @@
 --   cut_names       refusal 1 names the file's length
 --   long_names      refusal 2 names the byte of the first faulty number that breaks the rule
 --   range_names     refusal 3 names the first byte of that number
-use Rattle.std.specs.Prelude.{ℕ, zero, suc, ◌+◌, ◌-◌, ◌≤◌, ◌≡◌, refl, List, length, drop}
+use Rattle.std.specs.Prelude.{ℕ, zero, suc, ◌+◌, ◌≤◌, ◌≡◌, refl, List, length, drop}
 use Rattle.std.proofs.Common.{sym, ◌∙◌, arith, length-drop}
 use Rattle.sevens.specs.Laws.{BadByte, cut_length, long_byte}
 use Rattle.rulefile.specs.File.{groups, num_at, refused_read, read_of}

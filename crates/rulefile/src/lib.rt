@@ -1,5 +1,6 @@
 // The rule file: reading its bytes into a table, and writing a table's bytes into a lent buffer.
 #![tactic(auto)]
+
 ghost use Rattle.std.specs.Prelude.{◌≡◌, ◌+◌, ◌≤◌, ◌<◌, length};
 ghost use Rattle.std.proofs.lemmas.List.Edits.{sets};
 ghost use Rattle.sevens.specs.Sevens.{code_length_of};
