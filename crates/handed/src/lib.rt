@@ -1,5 +1,6 @@
 // A table handed in as columns of numbers or as the bytes of a rule file, and handed out as columns: what the calls for C are asked about.
 #![tactic(auto)]
+
 ghost use Rattle.std.specs.Prelude.{◌≡◌, ◌≤◌, length};
 ghost use Rattle.table.specs.Limits.{max_m};
 ghost use Rattle.handed.specs.Columns.{columns, rule_from_of, stored, table_of, short_of, refused_table, columns_of_table, bytes_of, delay_in_of, known_in_of, columns_from, refused_columns, read_into, read_as};
