@@ -1,6 +1,7 @@
 // The climb from ratio to ratio: passes over the rules until nothing rises, or a closed walk above the ratio is found.
 // x holds the values of the transitions; par 1 more than the number of the rule that last raised each, and 0 for none.
 #![tactic(auto)]
+
 mod above;
 mod order;
 mod scan;
