@@ -1,46 +1,49 @@
 // Reads a rule file on standard input and prints the rate of the transition named as the program's argument; with no argument the rates of all,
 // a line for those that share one. As in `report` the first 16,389 bytes decide.
 #![tactic(auto)]
+use std::io::{self, Print};
 use words::Text;
 
-fn write(bytes: &[u8], len: usize) {
+fn write(rt: &impl Print, bytes: &[u8], len: usize) -> io::Result<()> {
     if len <= bytes.len() {
-        io::write_all(1, &bytes[..len]);
+        rt.write_all(&bytes[..len])?;
     }
+    Ok(())
 }
 
-fn show(line: Text) {
+fn show(rt: &impl Print, line: Text) -> io::Result<()> {
     let len = line.len;
     let bytes = line.bytes;
-    write(&bytes[..], len);
+    write(rt, &bytes[..], len)
 }
 
-fn show_one(file: &[u8], digits: &[u8]) {
+fn show_one(rt: &impl Print, file: &[u8], digits: &[u8]) -> io::Result<()> {
     let v = rates_text::transition(digits);
-    show(rates_text::rate(file, v));
+    show(rt, rates_text::rate(file, v))
 }
 
 // A file that reading refuses has no transition; its refusal is then that of any rate.
-fn show_all(file: &[u8]) {
+fn show_all(rt: &impl Print, file: &[u8]) -> io::Result<()> {
     let all = rates_text::list_rates(file);
     if all.n == 0 {
-        show(rates_text::rate(file, 0));
+        show(rt, rates_text::rate(file, 0))?;
     }
     let mut v = 0;
     while v < 256 {
-        show(rates_text::group(all, v));
+        show(rt, rates_text::group(all, v))?;
         v += 1;
     }
+    Ok(())
 }
 
-fn main() {
+// No transition is named where there is no argument, or where it is empty or longer than 32 bytes.
+fn main(rt: HostRuntime) -> io::Result<()> {
     let mut file = [0u8; 16389];
-    let n = io::read_full(0, &mut file);
-    let mut digits = [0u8; 32];
-    let k = os::arg(1, &mut digits);
-    if k == 0 {
-        show_all(&file[..n]);
-    } else {
-        show_one(&file[..n], &digits[..k]);
+    let n = input::read_full(&mut rt.reader(), &mut file)?;
+    match std::env::args(&rt)?.nth(1) {
+        Some(digits) if 0 < digits.len() && digits.len() <= 32 => {
+            show_one(&rt, &file[..n], digits.as_bytes())
+        }
+        _ => show_all(&rt, &file[..n]),
     }
 }

@@ -1,10 +1,12 @@
 // Reads a rule file on standard input and prints its report. No valid file is longer than 16,388 bytes, so that its first 16,389 decide (report_first).
 #![tactic(auto)]
-fn main() {
+use std::io;
+
+fn main(rt: HostRuntime) -> io::Result<()> {
     let mut file = [0u8; 16389];
-    let n = io::read_full(0, &mut file);
+    let n = input::read_full(&mut rt.reader(), &mut file)?;
     let text = text::report(&file[..n]);
     let len = text.len;
     let bytes = text.bytes;
-    io::write_all(1, &bytes[..len]);
+    rt.write_all(&bytes[..len])
 }
