@@ -6,7 +6,7 @@
 --   Calm S v d r, Settled S v d == rule r shows no shorter walk from its source; no rule does
 --   near_least, near_short      then no walk is shorter than d says, and a closed one has at most n rules
 --   near_none, near_put         at first no walk is known; a distance put down
-use Rattle.std.specs.Prelude.{◌≡◌, refl, ◌≢◌, List, [], ◌∷◌, ℕ, zero, suc, ◌+◌, ◌-◌, ◌≤◌, ◌<◌, length, get_or, set, replicate}
+use Rattle.std.specs.Prelude.{◌≡◌, refl, ◌≢◌, List, [], ◌∷◌, ℕ, zero, suc, ◌+◌, ◌≤◌, ◌<◌, length, get_or, set, replicate}
 use Rattle.std.proofs.Common.{sym, ap, ◌∙◌, arith, get_or-set_same, get_or-set_other}
 use Rattle.std.proofs.Math.Logic.{by_cases, ite, if_pos, if_neg}
 use Rattle.std.proofs.Math.Decide.{ℕ_discrete}

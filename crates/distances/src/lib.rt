@@ -1,5 +1,6 @@
 // How far each transition is from one of them: the least number of rules, 1 or more, that lead there. Found breadth first, over the rules linked by their targets.
 #![tactic(auto)]
+
 ghost use Rattle.std.specs.Prelude.{◌≡◌, [], ℕ, ◌≤◌, ◌<◌, get_or, replicate};
 ghost use Rattle.columns.specs.Columns.{Limits};
 ghost use Rattle.peel.specs.Plain.{plain};

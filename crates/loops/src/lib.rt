@@ -1,5 +1,6 @@
 // The first loop of a kind of rule: through the lowest transition on any of them, of fewest rules, then first in the order of rule numbers.
 #![tactic(auto)]
+
 ghost use Rattle.std.specs.Prelude.{◌≡◌, true, false, [], ℕ, ◌+◌, ◌-◌, ◌*◌, ◌^◌, ◌≤◌, ◌<◌, get_or, take};
 ghost use Rattle.theory.specs.Schedule.{TightRule};
 ghost use Rattle.columns.specs.Columns.{shape, delay_at, Limits, Short};

@@ -97,7 +97,7 @@ module _ (S : Shape) (alive : List ℕ) (j : ℕ) (entering : List ℕ) (h : Tal
   tallied_add u w room low eu ew both t =
       rw add-one
       (by_cases (ℕ_discrete t w)
-      (λ s. rw (s, get_or-set_same entering w (get_or entering w 0 + 1) 0 (omega arith)) (inl ((sym ew, both.1, inl (rw (← eu) both.0)), (get_or entering w 0, omega arith, h w))))
+      (λ s. rw (s, get_or-set_same entering w (get_or entering w 0 + 1) 0 (omega arith)) (inl ((sym ew, both.1, inl (rw (← eu) both.0)), (get_or entering w 0, omega arith, subst (λ (x : ℕ). Tally (Enters S alive 0 0 t) j (get_or entering x 0)) s (h t)))))
       (λ d. rw (get_or-set_other entering w t (get_or entering w 0 + 1) 0 d) (inr (λ p. d (sym p.0 ∙ sym ew), h t))))
 
   -- and one that does not

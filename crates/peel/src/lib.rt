@@ -1,6 +1,7 @@
 // Peeling: strike out any transition that no remaining rule enters, or none leaves, until nothing more can be struck. A remnant means that there is a loop.
 // Those that none enters are struck first, then those that none leaves: the order does not matter for what remains.
 #![tactic(auto)]
+
 ghost use Rattle.std.specs.Prelude.{◌≡◌, true, false, [], ℕ, ◌≤◌, ◌<◌, get_or, replicate};
 ghost use Rattle.columns.specs.Columns.{Limits};
 ghost use Rattle.peel.specs.Plain.{plain};
