@@ -1,5 +1,6 @@
 // The engine: the lap of a table, and whether a loop of it has no turn. What works on columns is in the crates `columns`, `search`, `peel` and `loops`.
 #![tactic(auto)]
+
 mod laps;
 
 ghost use Rattle.engine.specs.Lap.{LapOf};
