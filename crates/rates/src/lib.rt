@@ -1,5 +1,6 @@
 // The rate of a transition of a table: the two ends of the period of the loops that reach it.
 #![tactic(auto)]
+
 mod ends;
 mod reach;
 
