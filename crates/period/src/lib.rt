@@ -1,5 +1,6 @@
 // The period library: the analysis of a table into lent buffers, and the rate of one transition.
 #![tactic(auto)]
+
 ghost use Rattle.std.specs.Prelude.{◌≡◌, ◌++◌, ◌≤◌, length, take, drop};
 ghost use Rattle.period.specs.Promise.{outcome, refused_analysis, AnalysisOf};
 // The two ends of a transition's rate: the call of `rates` as it is.
