@@ -1,5 +1,6 @@
 // The texts that the program `rate` prints for the bytes of a rule file: of one transition, and of all that share a rate.
 #![tactic(auto)]
+
 mod line;
 
 ghost use Rattle.std.specs.Prelude.{◌≡◌, [], ℕ, ◌<◌, length, get_or};

@@ -1,5 +1,6 @@
 // The text that the program `report` prints for the bytes of a rule file.
 #![tactic(auto)]
+
 mod lines;
 
 ghost use Rattle.words.specs.Lines.{refused_line_of};
