@@ -1,6 +1,7 @@
 // Reads a rule file on standard input and prints the rate of the transition named as the program's argument; with no argument the rates of all,
 // a line for those that share one. As in `report` the first 16,389 bytes decide.
 #![tactic(auto)]
+
 use std::io::{self, Print};
 use words::Text;
 

@@ -1,5 +1,6 @@
 // Reads a rule file on standard input and prints its report. No valid file is longer than 16,388 bytes, so that its first 16,389 decide (report_first).
 #![tactic(auto)]
+
 use std::io;
 
 fn main(rt: HostRuntime) -> io::Result<()> {
