@@ -5,7 +5,7 @@
 --   groups_ranked    where every loop turns there is a rank along the groups' rules of offset 0
 --   groups_plan      with an order they are a plan
 --   rows_timed       the rows made along it are the times
-use Rattle.std.specs.Prelude.{◌≡◌, refl, ◌⊎◌, List, ℕ, ◌+◌, ◌-◌, ◌≤◌, ◌<◌, replicate}
+use Rattle.std.specs.Prelude.{◌≡◌, refl, List, ℕ, ◌+◌, ◌≤◌, ◌<◌, replicate}
 use Rattle.std.proofs.Common.{sym, ◌∙◌, arith}
 use Rattle.std.proofs.Math.Logic.{inl, inr, ⊎_elim}
 use Rattle.std.proofs.Math.ListN.{get_or}

@@ -1,5 +1,6 @@
 // The timing simulation of a table: the rules grouped by target, an order of the transitions found once, and one pull along it for each occurrence.
 #![tactic(auto)]
+
 mod group;
 mod known;
 mod order;
