@@ -6,7 +6,7 @@
 --   BidOf s b                       THE PROMISE of `ends`: b is what is known of the bid with the bytes s
 --   choice_of a b                    the better of two bids; at equal high ends the first; neither, where neither can be analysed
 --   LaidOf s t l                    THE PROMISE of `side_by_side`
---   File                            a lent file: where it lies (ptr) and its bytes (now)
+--   File                            a lent file: where it lies (ref_ptr) and its bytes (now)
 --   Chosen z u r w f p              the part r is the file z, number u of the two; no refusal
 --   Handed c a x y r w f p          what is handed back for the choice c between the files x and y, where a is known of x: the part r, the number w of its
 --                                   file, 0 or 1, a refusal f and its place p

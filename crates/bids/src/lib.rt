@@ -1,5 +1,6 @@
 // Two rule files for the same socket, and the better of the two: the one with the lower high end.
 #![tactic(auto)]
+
 ghost use Rattle.std.specs.Prelude.{[], ◌≡◌, ◌*◌, ◌^◌, ◌<◌, ltb};
 ghost use Rattle.bids.specs.Promise.{refused_bid, choice_of, BidOf, LaidOf, BetterOf};
 ghost use Rattle.bids.specs.Steps.{Small};

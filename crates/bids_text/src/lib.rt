@@ -1,5 +1,6 @@
 // The text that the program `bids` prints for the bytes of two rule files: what is known of each, one under the other, and which is the better.
 #![tactic(auto)]
+
 ghost use Rattle.std.specs.Prelude.{◌+◌, ◌≤◌, length};
 ghost use Rattle.words.specs.Puts.{Puts};
 ghost use Rattle.bids_text.specs.Pair.{bid_line_of, better_line_of, pair_text, PairOf};
