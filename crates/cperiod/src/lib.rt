@@ -1,5 +1,6 @@
 // The calls that C links, over a table handed in as columns of numbers or as the bytes of a rule file. include/period.h declares them.
 #![tactic(auto)]
+
 mod calls;
 
 ghost use Rattle.std.specs.Prelude.{◌≡◌};
