@@ -1,12 +1,17 @@
 // Reads the two rule files that its arguments name and prints what is known of each, and which is the better. No valid file is longer than 16,388
 // bytes, so that the first 16,389 of each decide (pair_first).
 #![tactic(auto)]
+
+ghost use Rattle.std.specs.Prelude.{◌≤◌, length, IfOk, IfSome};
+
 use std::fs;
 use std::io::{self, Print};
 
 // Fills the buffer from the file that argument i names, and hands back how many bytes it has; None where there is no such argument or file, and why
 // is said on standard error.
-fn read(rt: &HostRuntime, i: usize, buf: &mut [u8]) -> io::Result<Option<usize>> {
+fn read(rt: &HostRuntime, i: usize, buf: &mut [u8]) -> io::Result<Option<usize>>
+    ensures { IfOk result (λ some. IfSome some (λ n. n ≤ length buf.new)) }
+{
     let Some(path) = std::env::args(rt)?.nth(i) else {
         eprintln!(rt; "bids: Invalid argument")?;
         return Ok(None);
