@@ -5,7 +5,7 @@
 --   EndsInward a b      == the ends of b lie within those of a, and an exact a stays; ends_inward: so they do where delays are narrowed
 --   Inward v w          == what filling may do to a verdict: nothing to a refusal; an answer's ends move inward, and an exact one stays
 --   filled_inward       THE THEOREM, between the verdicts on two such tables
-use Rattle.std.specs.Prelude.{◌≡◌, refl, true, ◌⊎◌, List, [], ◌∷◌, ℕ, zero, suc, ◌*◌, ◌/◌, ◌%◌, ◌≤◌, ◌<◌, get_or, take}
+use Rattle.std.specs.Prelude.{◌≡◌, refl, true, List, [], ◌∷◌, ℕ, zero, suc, ◌*◌, ◌/◌, ◌%◌, ◌≤◌, ◌<◌, get_or, take}
 use Rattle.std.proofs.Common.{sym, ap, ◌∙◌, subst, true≢false, ⊎_elim, arith}
 use Rattle.std.proofs.Math.Path.{fun_ext}
 use Rattle.std.proofs.Math.Logic.{by_cases}

@@ -7,7 +7,7 @@
 --   AnalysisOf t x l h o     == THE PROMISE of `analyse`
 --
 -- Theorem: analysis_unique (one outcome). The promise of `rate` is that of crate `rates`, `RateOf`.
-use Rattle.std.specs.Prelude.{◌≡◌, Bool, true, false, List, ◌++◌, ℕ, ◌+◌, ◌-◌, ltb, length, drop}
+use Rattle.std.specs.Prelude.{◌≡◌, Bool, true, false, List, ◌++◌, ℕ, ltb, length, drop}
 use Rattle.std.proofs.Common.{sym, ap, ◌∙◌}
 use Rattle.model.specs.Answer.{Answer}
 use Rattle.table.specs.declared.Table.{Table}

@@ -5,7 +5,7 @@
 --   Passing S D P Q A c X₀ X par Done j  == rules in some order, from X₀, where no value was above c: j of them have asked, and those that are Done
 --   raised_start, raised_most, passing_start, passing_raise, passing_leave, passing_skip, passing_carried, passing_end      what each step does to them
 --   settled                              a pass over all rules that raised nothing leaves a schedule
-use Rattle.std.specs.Prelude.{◌≡◌, ◌⊎◌, List, [], ◌∷◌, ℕ, suc, ◌+◌, ◌*◌, ◌-◌, ◌≤◌, ◌<◌, length, get_or, set, replicate}
+use Rattle.std.specs.Prelude.{◌≡◌, ◌⊎◌, List, [], ◌∷◌, ℕ, suc, ◌+◌, ◌*◌, ◌≤◌, ◌<◌, length, get_or, set, replicate}
 use Rattle.std.proofs.Common.{ap, ⊎_elim, arith, mul-le-mul_left, length-append, get_or-set_same, get_or-set_other}
 use Rattle.std.proofs.Math.Logic.{by_cases}
 use Rattle.std.proofs.Math.Decide.{ℕ_discrete}

@@ -12,7 +12,7 @@
 --   loop_onward, rate_rises   a rate never falls along rules
 --   visited, rate_shared, rates_shared       transitions on one loop share their rate
 --   rate_within, period_rate_lem  no rate is above the period, and the transitions of a loop that attains the period have it as their rate
-use Rattle.std.specs.Prelude.{◌≡◌, refl, ◌⊎◌, List, [], ◌∷◌, ◌++◌, ℕ, suc, ◌+◌, ◌*◌, ◌≤◌, ◌<◌, length}
+use Rattle.std.specs.Prelude.{◌≡◌, refl, ◌⊎◌, List, [], ◌∷◌, ◌++◌, ℕ, suc, ◌*◌, ◌≤◌, ◌<◌, length}
 use Rattle.std.proofs.Common.{sym, ap, ◌∙◌, subst, inl, inr, ⊎_elim, arith, mul-le-mul_left, le_of_mul-le-mul_right}
 use Rattle.std.proofs.Math.Logic.{by_cases}
 use Rattle.std.proofs.Math.Decide.{dec_lt}

@@ -1,6 +1,6 @@
 -- `columns::lay` meets its contract. The loop's invariant: the columns hold the first i rules (`Laid` at i).
 -- The measure is what is left of m. Assumes nothing.
-use Rattle.std.proofs.Common.{◌-◌, ◌≡◌, refl, sym, ◌∙◌, arith, false, true≢false}
+use Rattle.std.proofs.Common.{◌≡◌, refl, sym, ◌∙◌, arith, false, true≢false}
 use Rattle.table.specs.Form.{rule_of}
 use Rattle.columns.specs.Lay.{laid_start, laid_next, ordered}
 use Rattle.columns.proofs.lay.Goals as goal

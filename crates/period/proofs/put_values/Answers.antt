@@ -1,6 +1,6 @@
 -- `put_values` meets its contract. The loop's invariant: the first i places hold the values, the rest is as it was.
 -- The measure is what is left of n. Assumes nothing.
-use Rattle.std.proofs.Common.{◌-◌, ◌≡◌, refl, arith, length-set}
+use Rattle.std.proofs.Common.{◌≡◌, refl, arith, length-set}
 use Rattle.period.specs.Steps.{put_next}
 use Rattle.period.proofs.put_values.Goals as goal
 

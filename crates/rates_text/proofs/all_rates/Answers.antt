@@ -1,6 +1,6 @@
 -- `rates_text::all_rates` meets its contract. The loop's invariant: the rates of the transitions passed. The measure is how many are left.
 -- Assumes nothing.
-use Rattle.std.proofs.Common.{◌-◌, length-set, arith}
+use Rattle.std.proofs.Common.{length-set, arith}
 use lib.ListN.{length-replicate}
 use Rattle.rates_text.specs.Rates.{rates_next}
 use Rattle.rates_text.proofs.all_rates.Goals as goal

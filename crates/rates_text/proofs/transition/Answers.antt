@@ -1,6 +1,6 @@
 -- `rates_text::transition` meets its contract. The loop's invariant: the number that the digits passed say. The measure is how many are left.
 -- Assumes nothing.
-use Rattle.std.proofs.Common.{◌-◌, ◌≡◌, subst, length, arith}
+use Rattle.std.proofs.Common.{◌≡◌, subst, length, arith}
 use Rattle.rates_text.specs.Rates.{told_to, told_none, told_next}
 use Rattle.rates_text.proofs.transition.Goals as goal
 

@@ -1,9 +1,8 @@
 -- `sevens::number_in` meets its contract.
 -- Each way out is one case of the answer: a law names the case, and the part handed back is `nothing`'s or the end of the bytes.
 -- Assumes nothing.
-use Rattle.std.proofs.Common.{◌≡◌, refl, ap, sym, ◌∙◌, arith}
-use Rattle.sevens.specs.declared.Raw.TheVariants.{Value}
-use Rattle.sevens.specs.Sevens.{raw_of, refused}
+use Rattle.std.proofs.Common.{refl, ap, sym, ◌∙◌, arith}
+use Rattle.sevens.specs.Sevens.{refused}
 use Rattle.sevens.specs.Laws.{raw_size, number_cut, number_long, number_low, number_high}
 use Rattle.sevens.specs.Steps.{read_refused, read_accepted}
 use Rattle.sevens.proofs.number_in.Goals as goal

@@ -3,7 +3,7 @@
 -- The measure is the groups left. Assumes nothing.
 use Rattle.std.proofs.Common.{◌-◌, sym, arith}
 use Rattle.sevens.specs.Sevens.{raw_of}
-use Rattle.sevens.specs.Steps.{carried_start, carried_cut, carried_zero, carried_last, carried_again, carried_long, Turn, turn_fits, scale_again}
+use Rattle.sevens.specs.Steps.{carried_start, carried_cut, carried_zero, carried_last, carried_again, carried_long, turn_fits, scale_again}
 use Rattle.sevens.proofs.several.Goals as goal
 
 pub loop-i-init : goal.loop-i-init

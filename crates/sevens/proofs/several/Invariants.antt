@@ -4,8 +4,6 @@
 use Rattle.std.proofs.Common.{◌-◌, ◌^◌, ◌≤◌, ◌<◌, ◌≡◌, length, drop}
 use Rattle.sevens.specs.Sevens.{raw_of}
 use Rattle.sevens.specs.Steps.{carried}
-use Rattle.sevens.proofs.several.Reads as reads
-use Rattle.sevens.proofs.wide.Reads as wide-reads
 use Rattle.sevens.proofs.several.Given as goal
 
 abbrev pub invariant-loop-i : goal.invariant-loop-i

@@ -1,6 +1,6 @@
 -- `table::check` meets its contract. The loop's invariant: n and m are within their limits, and so is every field of the rules passed.
 -- The measure is the count of rules to come. Assumes nothing.
-use Rattle.std.proofs.Common.{inl, inr, ◌≡◌, refl, subst, ◌-◌, arith}
+use Rattle.std.proofs.Common.{inl, inr, ◌≡◌, refl, subst, arith}
 use Rattle.table.specs.Form.{rule_of}
 use Rattle.table.specs.Fields.{FirstIn, two_fields, fields_more, found_bad, bad_n, bad_m, ok_within}
 use Rattle.table.proofs.check.Goals as goal

@@ -1,5 +1,5 @@
 -- `words::number` meets its contract: a space, then the number. No loop. Assumes nothing.
-use Rattle.std.proofs.Common.{ℕ, ◌+◌, ap, sym, arith, List, ◌++◌, append-nil}
+use Rattle.std.proofs.Common.{ℕ, ap, sym, arith, List, ◌++◌, append-nil}
 use Rattle.words.specs.Decimal.{ascii}
 use Rattle.words.specs.Puts.{puts_same, puts_then}
 use Rattle.words.proofs.number.Goals as goal

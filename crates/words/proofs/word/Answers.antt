@@ -1,6 +1,6 @@
 -- `words::word` meets its contract: a loop over its bytes.
 -- Invariant: the first i bytes are put. The measure is how many are left. Assumes nothing.
-use Rattle.std.proofs.Common.{◌-◌, refl, arith, take_all}
+use Rattle.std.proofs.Common.{refl, arith, take_all}
 use Rattle.words.specs.Puts.{puts_none, puts_next, puts_length, puts_same}
 use Rattle.words.proofs.word.Goals as goal
 

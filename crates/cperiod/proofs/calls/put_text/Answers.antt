@@ -1,6 +1,6 @@
 -- `calls::put_text` meets its contract. The loop's invariant: the first i bytes stand in the lowest places, the rest is as it was.
 -- The measure is the count of bytes to come. Assumes nothing.
-use Rattle.std.proofs.Common.{◌-◌, ◌≡◌, refl, arith, length-set}
+use Rattle.std.proofs.Common.{◌≡◌, refl, arith, length-set}
 use Rattle.period.specs.Steps.{put_next}
 use Rattle.cperiod.proofs.calls.put_text.Goals as goal
 

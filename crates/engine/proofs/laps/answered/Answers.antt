@@ -1,6 +1,5 @@
 -- `laps::answered` meets its contract: the parts make the answer (`lap_made`).
 -- Assumes nothing.
-use Rattle.std.proofs.Common.{rules}
 use Rattle.engine.specs.Lap.{lap_made}
 use Rattle.engine.proofs.laps.answered.Goals as goal
 

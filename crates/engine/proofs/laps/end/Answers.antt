@@ -1,6 +1,6 @@
 -- `laps::end` meets its contract: the rule numbers padded with zeros are the end's (`end_made`).
 -- Assumes nothing.
-use Rattle.std.proofs.Common.{arith, rules}
+use Rattle.std.proofs.Common.{arith}
 use Rattle.engine.specs.Lap.{end_made}
 use Rattle.engine.proofs.laps.end.Goals as goal
 

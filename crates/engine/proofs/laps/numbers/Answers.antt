@@ -1,6 +1,6 @@
 -- `laps::numbers` meets its contract. The loop's invariant: the first i numbers are copied, zeros follow.
 -- The measure is what is left of len. Assumes nothing.
-use Rattle.std.proofs.Common.{◌-◌, ◌≡◌, refl, arith}
+use Rattle.std.proofs.Common.{◌≡◌, refl, arith}
 use Rattle.engine.specs.Lap.{numbers_next}
 use Rattle.engine.proofs.laps.numbers.Goals as goal
 

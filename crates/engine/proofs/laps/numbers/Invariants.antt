@@ -1,6 +1,6 @@
 -- `laps::numbers` meets its contract. The loop's invariant: the first i numbers are copied, zeros follow.
 -- The measure is what is left of len. Assumes nothing.
-use Rattle.std.proofs.Common.{◌-◌, ◌≤◌, ◌≡◌, take, rules, ◌++◌, replicate}
+use Rattle.std.proofs.Common.{◌-◌, ◌≤◌, ◌≡◌, take, ◌++◌, replicate}
 use Rattle.engine.proofs.laps.numbers.Given as goal
 
 abbrev pub invariant-loop-i : goal.invariant-loop-i

@@ -1,6 +1,6 @@
 -- `reach::gather` meets its contract. The loop's invariant: of the rules passed, those near v were taken (`Taken`).
 -- The measure is the count of rules left. Assumes nothing.
-use Rattle.std.proofs.Common.{◌-◌, ◌≡◌, arith}
+use Rattle.std.proofs.Common.{◌≡◌, arith}
 use Rattle.rates.specs.Reach.{counts_most, taken_none, taken_next}
 use Rattle.rates.proofs.reach.gather.Goals as goal
 

@@ -1,6 +1,6 @@
 -- `rates_text::line::earlier` meets its contract. The loop's invariant: whether one of the transitions passed shares the rate. The measure is how many are
 -- left. Assumes nothing.
-use Rattle.std.proofs.Common.{◌-◌, ◌≡◌, refl, subst, arith}
+use Rattle.std.proofs.Common.{◌≡◌, refl, subst, arith}
 use Rattle.rates_text.specs.Rates.{earlier_than, earlier_none, earlier_next}
 use Rattle.rates_text.proofs.line.earlier.Goals as goal
 

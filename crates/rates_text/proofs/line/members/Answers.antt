@@ -1,6 +1,6 @@
 -- `rates_text::line::members` meets its contract: a loop over all transitions.
 -- Invariant: those of the first k that share the rate are put, in at most 21 bytes each. The measure is how many are left. Assumes nothing.
-use Rattle.std.proofs.Common.{◌-◌, ◌≡◌, refl, subst, arith}
+use Rattle.std.proofs.Common.{◌≡◌, refl, subst, arith}
 use Rattle.words.specs.Decimal.{numbers}
 use Rattle.words.specs.Puts.{Puts, puts_none, puts_length, puts_same}
 use Rattle.rates_text.specs.Rates.{members_to, members_none, members_next}

@@ -1,5 +1,5 @@
 -- `text::lines::loop_line` meets its contract: its parts one after the other. No loop. Assumes nothing.
-use Rattle.std.proofs.Common.{arith, rules}
+use Rattle.std.proofs.Common.{arith}
 use Rattle.words.specs.Puts.{puts_then}
 use Rattle.text.proofs.lines.loop_line.Goals as goal
 

@@ -1,6 +1,6 @@
 -- `text::lines::values` meets its contract: a loop over its numbers.
 -- Invariant: the first i numbers are put, in at most 21 bytes each. The measure is how many are left. Assumes nothing.
-use Rattle.std.proofs.Common.{◌-◌, ap, take, arith, [], ◌∷◌, take_all}
+use Rattle.std.proofs.Common.{ap, take, arith, [], ◌∷◌, take_all}
 use Rattle.words.specs.Decimal.{numbers, numbers_append}
 use Rattle.words.specs.Puts.{puts_none, puts_next, puts_length, puts_same}
 use Rattle.text.proofs.lines.values.Goals as goal
