@@ -1,4 +1,4 @@
-//! Finds the proved archive, which `rt staticlib cperiod` writes at the repository's root.
+//! Finds the proved archive, which `tools/archive` makes.
 
 use std::env;
 use std::path::PathBuf;
@@ -10,7 +10,7 @@ fn main() {
     println!("cargo:rerun-if-changed={}", archive.display());
     assert!(
         archive.exists(),
-        "no libcperiod.a in target/staticlib: run 'rt staticlib cperiod' at the repository's root"
+        "no libcperiod.a in target/staticlib: run tools/archive at the repository's root"
     );
     println!("cargo:rustc-link-search=native={}", folder.display());
     println!("cargo:rustc-link-lib=static=cperiod");

@@ -22,7 +22,7 @@
 //! | `calls` | [`read`], [`write`], [`analyse`], [`rate`], [`simulate`], [`report`], [`number`], [`better`] |
 //! | [`face`] | the C calls as `include/period.h` declares them |
 //!
-//! The repository's root says how the archive is made: `rt staticlib cperiod`.
+//! The repository's root says how the archive is made: `tools/archive`.
 
 mod calls;
 pub mod face;
