@@ -9,7 +9,7 @@ rt version
 echo
 echo "| crate | proved in (s) | lines of code | of specs | of proofs | must-fail edits | seconds each |"
 echo "|---|---|---|---|---|---|---|"
-for crate in $(sed -n 's/^\([a-z_]*\):.*/\1/p' crates.txt); do
+for crate in $(sed -n 's/^\([a-z_]*\)[: ].*/\1/p' crates.txt); do
     proved=$(sed -n "s/^rt: $crate proved (\([0-9]*\) s).*/\1/p" "$log" | tail -n 1)
     edits=$(grep -c "^rt: must-fail $crate/.*refused" "$log" || true)
     each=$(sed -n "s/^rt: must-fail $crate\/.*[; (]\([0-9]*\) s)$/\1/p" "$log" | sort -n | sed -n '1p;$p' | uniq | paste -sd- -)

@@ -1,6 +1,6 @@
 /* Vedhrunak's period tool, for C (C99 or later) and C++.
  *
- * Link with target/staticlib/libcperiod.a, which `rt staticlib cperiod` writes (x86-64 Linux).
+ * Link with target/staticlib/libcperiod.a, which tools/archive makes (x86-64 Linux).
  *
  * WHAT IS VERIFIED. For every input, each function hands back what its comment says and leaves in the lent buffers what its comment says,
  * and nothing else; the promises stand in crates/cperiod/src/lib.rt, and are proved to admit one outcome.
