@@ -56,6 +56,9 @@ BY_HAND = {
     "Known-to": "KnownTo",
 }
 
+# port.py gave a definition of `handed` the name of a function of that crate: in specs/, imports and clauses it is the definition that is meant.
+TABLE_OF = re.compile(r"(?<![\w'-])table_of(?![\w'-])")
+
 # What port.py itself has spelled so, in specs/ and src/: edits and documents follow.
 PORTED = """
 add-a add-at add-done add-r add-times add-wide alike-all alike-spec all-any all-append all-join andThen answerOf any-code at-1 at-8 at-once
@@ -126,6 +129,9 @@ def main():
         text = open(f).read()
         known = names if f.endswith((".antt", ".rt")) else {**names, **{n: snake(n) for n in PORTED}}
         new = TOKEN.sub(lambda m: known.get(m.group(0), m.group(0)), text)
+        if f.startswith("crates/handed/") or f == "docs/PROMISES.md":
+            new = "".join(TABLE_OF.sub("table_from", line) if f.endswith((".antt", ".md")) and "/proofs/" not in f or re.match(r"ghost use|\s*ensures", line) else line
+                          for line in new.splitlines(keepends=True))
         if new != text:
             open(f, "w").write(new)
 

@@ -2,16 +2,29 @@
 // bytes, so that the first 16,389 of each decide (pair_first).
 #![tactic(auto)]
 
+use std::env::{Env, FillError};
 use std::fs::{self, File};
 use std::io::{self, Print};
 
 // Opens the file that argument i names; where it cannot, it says why on standard error and hands back None.
 fn opened(rt: &HostRuntime, i: usize) -> io::Result<Option<File>> {
-    let Some(path) = std::env::args(rt)?.nth(i) else {
-        eprintln!(rt; "bids: Invalid argument")?;
+    let mut bytes = [0u8; 4096];
+    let n = match rt.arg(i, &mut bytes) {
+        Ok(n) => n,
+        Err(FillError::NotPresent) => {
+            eprintln!(rt; "bids: Invalid argument")?;
+            return Ok(None);
+        }
+        Err(FillError::TooLong) => {
+            eprintln!(rt; "bids: File name too long")?;
+            return Ok(None);
+        }
+    };
+    let Ok(path) = str::from_utf8(&bytes[..n]) else {
+        eprintln!(rt; "bids: File name is not UTF-8")?;
         return Ok(None);
     };
-    match fs::open(rt, path.as_str()) {
+    match fs::open(rt, path) {
         Ok(file) => Ok(Some(file)),
         Err(error) => {
             eprintln!(rt; "{path}: {error}")?;

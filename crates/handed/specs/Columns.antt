@@ -5,7 +5,7 @@
 --   rule_in c r             rule r of the columns
 --   stored m               how many of m rules a table has places for
 --   filled_to c t r         t with the first r rules of the columns in their places
---   table_of n c            the table of n transitions and the rules of the columns
+--   table_from n c            the table of n transitions and the rules of the columns
 --   short_of, short c       some column has fewer places than that of the sources
 --   refused_table, given_table      a table handed in that is refused, and one that is not
 --   columns_of_table n c          what is handed in by columns: refused 8 where one is too short
@@ -61,8 +61,8 @@ filled_to c t zero = t
 filled_to c t (suc r) = with_rule (filled_to c t r) r (rule_in c r)
 
 -- n transitions and as many rules as there are sources
-unfoldable pub table_of : ℕ → Columns → Table
-table_of n c = filled_to c (sized n (length c.source)) (stored (length c.source))
+unfoldable pub table_from : ℕ → Columns → Table
+table_from n c = filled_to c (sized n (length c.source)) (stored (length c.source))
 
 -- some column is shorter than that of the sources, given the lengths of all five
 abbrev pub short_of : ℕ → ℕ → ℕ → ℕ → ℕ → Bool
@@ -80,7 +80,7 @@ given_table t = record { refusal = 0; place = 0; table = t }
 
 -- columns of which one is too short are refused 8 with the length needed
 unfoldable pub columns_of_table : ℕ → Columns → Handed
-columns_of_table n c = pick (short c) (refused_table 8 (length c.source)) (given_table (table_of n c))
+columns_of_table n c = pick (short c) (refused_table 8 (length c.source)) (given_table (table_from n c))
 
 -- what a file is read as
 abbrev pub handed_by : FileRead → Handed

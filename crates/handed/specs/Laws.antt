@@ -9,7 +9,7 @@ use Rattle.std.proofs.lemmas.List.{length-replicate}
 use Rattle.table.specs.Limits.{max_m}
 use Rattle.table.specs.Form.{unused_rule, sized, rule_of, all_unused}
 use Rattle.table.specs.declared.Table.{Table}
-use Rattle.handed.specs.Columns.{Columns, rule_in, stored, filled_to, table_of, put_to}
+use Rattle.handed.specs.Columns.{Columns, rule_in, stored, filled_to, table_from, put_to}
 use Rattle.handed.specs.Steps.{stored_within}
 
 -- storing rules changes neither n, nor m, nor how many places there are
@@ -36,20 +36,20 @@ filled_other c t zero r b = refl
 filled_other c t (suc k) r b = get_or-set_other (filled_to c t k).rules k r (rule_in c k) unused_rule (λ e. omega arith) ∙ filled_other c t k r (omega arith)
 
 -- A TABLE FROM COLUMNS HAS THEIR N AND M,
-pub table_sizes : (n : ℕ) (c : Columns) → ((table_of n c).n ≡ n) × ((table_of n c).m ≡ length c.source)
-unfolding table_of
+pub table_sizes : (n : ℕ) (c : Columns) → ((table_from n c).n ≡ n) × ((table_from n c).m ≡ length c.source)
+unfolding table_from
 table_sizes n c = let h = filled_sizes c (sized n (length c.source)) (stored (length c.source)) in (h.0, h.1)
 
 -- EACH RULE IN ITS PLACE,
-pub table_rule : (n : ℕ) (c : Columns) (r : ℕ) → r < stored (length c.source) → rule_of (table_of n c) r ≡ rule_in c r
-unfolding table_of
+pub table_rule : (n : ℕ) (c : Columns) (r : ℕ) → r < stored (length c.source) → rule_of (table_from n c) r ≡ rule_in c r
+unfolding table_from
 table_rule n c r b =
     filled_rule c (sized n (length c.source)) (stored (length c.source)) r b
     (omega (arith, (stored_within (length c.source) _ refl).1, length-replicate max_m unused_rule))
 
 -- AND EVERY OTHER PLACE UNUSED
-pub table_unused : (n : ℕ) (c : Columns) (r : ℕ) → stored (length c.source) ≤ r → rule_of (table_of n c) r ≡ unused_rule
-unfolding table_of
+pub table_unused : (n : ℕ) (c : Columns) (r : ℕ) → stored (length c.source) ≤ r → rule_of (table_from n c) r ≡ unused_rule
+unfolding table_from
 table_unused n c r b = filled_other c (sized n (length c.source)) (stored (length c.source)) r b ∙ all_unused max_m r
 
 put_length : (f : ℕ → ℕ) (xs : List ℕ) (m : ℕ) → length (put_to f xs m) ≡ length xs

@@ -24,7 +24,7 @@ use Rattle.rulefile.specs.File.{read_of}
 use Rattle.rulefile.specs.RoundTrip.{read_within}
 use Rattle.handed.specs.declared.Handed.{Handed}
 use Rattle.handed.specs.declared.PeriodTable.{PeriodTable}
-use Rattle.handed.specs.Columns.{Columns, rule_from_of, rule_in, stored, filled_to, table_of, short_of, short, refused_table, given_table, columns_of_table, put_to, columns_from, columns, ReadColumns, read_as, refused_columns, sizes_of, read_into}
+use Rattle.handed.specs.Columns.{Columns, rule_from_of, rule_in, stored, filled_to, table_from, short_of, short, refused_table, given_table, columns_of_table, put_to, columns_from, columns, ReadColumns, read_as, refused_columns, sizes_of, read_into}
 
 -- ---- one rule
 
@@ -63,8 +63,8 @@ pub filled_next : (c : Columns) (b t : Table) (r : ℕ) (x : Rule) → t ≡ fil
 unfolding filled_to
 filled_next c b t r x e f = rw (add-one r) (ap (λ (u : Table). with_rule u r x) e ∙ ap (with_rule (filled_to c b r) r) f)
 
-pub filled_all : (n : ℕ) (c : Columns) (t : Table) (k r : ℕ) → k ≡ stored (length c.source) → r ≡ k → t ≡ filled_to c (sized n (length c.source)) r → t ≡ table_of n c
-unfolding table_of
+pub filled_all : (n : ℕ) (c : Columns) (t : Table) (k r : ℕ) → k ≡ stored (length c.source) → r ≡ k → t ≡ filled_to c (sized n (length c.source)) r → t ≡ table_from n c
+unfolding table_from
 filled_all n c t k r e f g = g ∙ ap (filled_to c (sized n (length c.source))) (f ∙ e)
 
 -- ---- the lengths of the columns
@@ -97,7 +97,7 @@ pub columns_short : (n : ℕ) (c : Columns) → short c ≡ true → refused_tab
 unfolding columns_of_table
 columns_short n c e = rw e refl
 
-pub columns_whole : (n : ℕ) (c : Columns) (t : Table) → short c ≡ false → t ≡ table_of n c → given_table t ≡ columns_of_table n c
+pub columns_whole : (n : ℕ) (c : Columns) (t : Table) → short c ≡ false → t ≡ table_from n c → given_table t ≡ columns_of_table n c
 unfolding columns_of_table
 columns_whole n c t e f = rw e (ap given_table f)
 

@@ -3,7 +3,7 @@
 
 ghost use Rattle.std.specs.Prelude.{◌≡◌, ◌≤◌, length};
 ghost use Rattle.table.specs.Limits.{max_m};
-ghost use Rattle.handed.specs.Columns.{columns, rule_from_of, stored, table_of, short_of, refused_table, columns_of_table, bytes_of, delay_in_of, known_in_of, columns_from, refused_columns, read_into, read_as};
+ghost use Rattle.handed.specs.Columns.{columns, rule_from_of, stored, table_from, short_of, refused_table, columns_of_table, bytes_of, delay_in_of, known_in_of, columns_from, refused_columns, read_into, read_as};
 
 use table::{Delay, Rule, Table};
 
@@ -66,7 +66,7 @@ fn table_of(
     known: &[u8],
 ) -> Table
     requires { (length source.now ≤ length target.now) × (length source.now ≤ length offset.now) × (length source.now ≤ length delay.now) × (length source.now ≤ length known.now) }
-    ensures { result ≡ table_of n (columns source.now target.now offset.now delay.now known.now) }
+    ensures { result ≡ table_from n (columns source.now target.now offset.now delay.now known.now) }
 {
     let mut t = Table::empty();
     t.n = n;

@@ -2,6 +2,7 @@
 // a line for those that share one. As in `report` the first 16,389 bytes decide.
 #![tactic(auto)]
 
+use std::env::Env;
 use std::io::{self, Print};
 use words::Text;
 
@@ -41,10 +42,9 @@ fn show_all(rt: &impl Print, file: &[u8]) -> io::Result<()> {
 fn main(rt: HostRuntime) -> io::Result<()> {
     let mut file = [0u8; 16389];
     let n = input::read_full(&mut rt.reader(), &mut file)?;
-    match std::env::args(&rt)?.nth(1) {
-        Some(digits) if 0 < digits.len() && digits.len() <= 32 => {
-            show_one(&rt, &file[..n], digits.as_bytes())
-        }
+    let mut digits = [0u8; 32];
+    match rt.arg(1, &mut digits) {
+        Ok(k) if 0 < k => show_one(&rt, &file[..n], &digits[..k]),
         _ => show_all(&rt, &file[..n]),
     }
 }
