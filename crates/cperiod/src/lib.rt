@@ -1,4 +1,4 @@
-// The calls that C links, over a table handed in as columns of numbers or as the bytes of a rule file. include/period.h declares them.
+// The calls for C, over a table handed in as columns of numbers or as the bytes of a rule file. The crate `cperiod_c` exports them.
 #![tactic(auto)]
 
 mod calls;
@@ -76,8 +76,7 @@ pub struct PeriodBids {
 }
 
 // The analysis of a table handed in as columns.
-#[unsafe(no_mangle)]
-pub extern "C" fn period_analyse(
+pub fn period_analyse(
     n: usize,
     source: &[u16],
     target: &[u16],
@@ -95,8 +94,7 @@ pub extern "C" fn period_analyse(
 }
 
 // The rate of transition v of a table handed in as columns.
-#[unsafe(no_mangle)]
-pub extern "C" fn period_rate(
+pub fn period_rate(
     n: usize,
     source: &[u16],
     target: &[u16],
@@ -117,8 +115,7 @@ pub extern "C" fn period_rate(
 }
 
 // The rule file of a table handed in as columns.
-#[unsafe(no_mangle)]
-pub extern "C" fn period_write(
+pub fn period_write(
     n: usize,
     source: &[u16],
     target: &[u16],
@@ -134,8 +131,7 @@ pub extern "C" fn period_write(
 }
 
 // The timing simulation of a table handed in as columns.
-#[unsafe(no_mangle)]
-pub extern "C" fn period_simulate(
+pub fn period_simulate(
     n: usize,
     source: &[u16],
     target: &[u16],
@@ -152,8 +148,7 @@ pub extern "C" fn period_simulate(
 }
 
 // The table of a rule file, as columns.
-#[unsafe(no_mangle)]
-pub extern "C" fn period_read(
+pub fn period_read(
     bytes: &[u8],
     source: &mut [u16],
     target: &mut [u16],
@@ -167,8 +162,7 @@ pub extern "C" fn period_read(
 }
 
 // The analysis of the table of a rule file.
-#[unsafe(no_mangle)]
-pub extern "C" fn period_file_analyse(
+pub fn period_file_analyse(
     bytes: &[u8],
     schedule: &mut [u64],
     low: &mut [u32],
@@ -181,8 +175,7 @@ pub extern "C" fn period_file_analyse(
 }
 
 // The rate of transition v of the table of a rule file.
-#[unsafe(no_mangle)]
-pub extern "C" fn period_file_rate(bytes: &[u8], v: usize) -> PeriodRate
+pub fn period_file_rate(bytes: &[u8], v: usize) -> PeriodRate
     ensures { RateFrom (bytes_of bytes.now) v result }
 {
     let handed = handed::from_file(bytes);
@@ -195,12 +188,7 @@ pub extern "C" fn period_file_rate(bytes: &[u8], v: usize) -> PeriodRate
 }
 
 // The timing simulation of the table of a rule file.
-#[unsafe(no_mangle)]
-pub extern "C" fn period_file_simulate(
-    bytes: &[u8],
-    occurrences: usize,
-    times: &mut [u64],
-) -> PeriodStatus
+pub fn period_file_simulate(bytes: &[u8], occurrences: usize, times: &mut [u64]) -> PeriodStatus
     ensures { SimulationFrom (bytes_of bytes.now) occurrences times.old result times.new }
 {
     let handed = handed::from_file(bytes);
@@ -208,24 +196,21 @@ pub extern "C" fn period_file_simulate(
 }
 
 // What the program `report` prints for the bytes of a rule file.
-#[unsafe(no_mangle)]
-pub extern "C" fn period_report(bytes: &[u8], out: &mut [u8]) -> PeriodCount
+pub fn period_report(bytes: &[u8], out: &mut [u8]) -> PeriodCount
     ensures { ReportFrom bytes.now out.old result out.new }
 {
     calls::reported(bytes, out)
 }
 
 // The number at the front of some bytes, from `low` to `high`.
-#[unsafe(no_mangle)]
-pub extern "C" fn period_number(bytes: &[u8], low: u32, high: u32) -> PeriodNumber
+pub fn period_number(bytes: &[u8], low: u32, high: u32) -> PeriodNumber
     ensures { result ≡ number_in bytes.now low high }
 {
     calls::number(bytes, low, high)
 }
 
 // The better of two rule files: the one with the lower high end.
-#[unsafe(no_mangle)]
-pub extern "C" fn period_bids<'a>(first: &'a [u8], second: &'a [u8]) -> PeriodBids
+pub fn period_bids<'a>(first: &'a [u8], second: &'a [u8]) -> PeriodBids
     ensures { BidsFrom first.entry second.entry result }
 {
     calls::chosen(first, second)
