@@ -1,3 +1,4 @@
 pub mod Refused
 pub mod Filled
 pub mod Rates
+pub mod Timed
