@@ -2,3 +2,4 @@ pub mod Refused
 pub mod Filled
 pub mod Rates
 pub mod Timed
+pub mod Exists
