@@ -3,3 +3,4 @@ pub mod Filled
 pub mod Rates
 pub mod Timed
 pub mod Exists
+pub mod Outcomes
