@@ -10,6 +10,7 @@
 --   a rate                     rated_exists
 --   a simulation               simulation_exists
 --   a bid, two bids, the better of two     bid_exists, laid_exists, better_exists
+--   a report                   text_exists
 use Rattle.std.specs.Prelude.{◌≡◌, refl, ◌⊎◌, List, [], ◌++◌, ℕ, ◌*◌, ◌≤◌, ◌<◌, length, get_or, drop}
 use Rattle.std.proofs.Common.{sym, ap, ◌∙◌, subst, inl, inr, ⊎_elim, arith, mul_comm}
 use Rattle.std.proofs.Math.Logic.{by_cases}
@@ -40,6 +41,8 @@ use Rattle.bids.specs.declared.Choice.{Choice}
 use Rattle.bids.specs.declared.Choice.TheVariants.{Neither, First, Second}
 use Rattle.bids.specs.declared.Laid.{Laid}
 use Rattle.bids.specs.Promise.{refused_bid, judged_bid, BidOf, choice_of, LaidOf, File, Handed, BetterOf}
+use Rattle.words.specs.Lines.{refused_line_of}
+use Rattle.text.specs.Text.{verdict_text, FileText}
 use Rattle.demands.specs.Timed.{timed_exists}
 
 -- ------------------------------------------------------------------------------------------------------------------------------- tables and files
@@ -248,3 +251,14 @@ better_exists x y = at (choice_of a b) refl
         (z, 0, a.refusal, a.place, made z 0 a.refusal a.place (subst (λ (c : Choice). Handed c a x y z 0 a.refusal a.place) (sym e) (refl, refl, refl, refl, refl)))
     at First e = (x, 0, 0, 0, made x 0 0 0 (subst (λ (c : Choice). Handed c a x y x 0 0 0) (sym e) (refl, refl, refl, refl)))
     at Second e = (y, 1, 0, 0, made y 1 0 0 (subst (λ (c : Choice). Handed c a x y y 1 0 0) (sym e) (refl, refl, refl, refl)))
+
+-- ---------------------------------------------------------------------------------------------------------------------------------------- a report
+
+-- A TEXT FOR EVERY FILE
+pub text_exists : (s : List ℕ) → (x : List ℕ) × FileText s x
+text_exists s =
+    by_cases (dec_lt 0 (read_of s).refusal)
+    (λ l. (refused_line_of (read_of s).refusal (read_of s).place, record { refused = λ g. refl; accepted = λ g. absurd (omega arith) }))
+    (λ l.
+    let (v, j) = verdict_exists (read_of s).table in
+    (verdict_text v, record { refused = λ g. absurd (omega arith); accepted = λ g. record { verdict = v; judged = j; result = refl } }))

@@ -4,3 +4,5 @@ pub mod Rates
 pub mod Timed
 pub mod Exists
 pub mod Outcomes
+pub mod Demand1
+pub mod Columns
