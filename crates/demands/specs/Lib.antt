@@ -6,3 +6,4 @@ pub mod Exists
 pub mod Outcomes
 pub mod Demand1
 pub mod Columns
+pub mod Demand2
