@@ -7,3 +7,4 @@ pub mod Outcomes
 pub mod Demand1
 pub mod Columns
 pub mod Demand2
+pub mod Demand3
