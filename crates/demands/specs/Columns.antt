@@ -1,7 +1,7 @@
 -- DEMAND 1 FOR READING INTO COLUMNS, a call that C has: that it comes back with one outcome is its equation, `read_into` (crate handed).
 --
 --   columns_refused    a reading into columns refused: number and place, sizes 0, and the five columns as they were lent
-use Rattle.std.specs.Prelude.{◌≡◌, refl, ℕ, ◌<◌, ltb}
+use Rattle.std.specs.Prelude.{◌≡◌, refl, ◌<◌, ltb}
 use Rattle.std.proofs.Common.{arith}
 use Rattle.handed.specs.declared.Handed.{Handed}
 use Rattle.handed.specs.Columns.{Columns, ReadColumns, read_as, refused_columns, read_into, short_for}

@@ -19,17 +19,16 @@
 --
 --   number_refused, check_refused, reading_refused, writing_refused, analysis_refused, rate_refused, simulation_refused, bid_refused, better_refused
 use Rattle.std.specs.Prelude.{◌≡◌, refl, Bool, true, false, List, [], ℕ, ◌+◌, ◌-◌, ◌<◌, length, ltb}
-use Rattle.std.proofs.Common.{sym, ap, ◌∙◌, subst, inl, inr, ⊎_elim, arith}
+use Rattle.std.proofs.Common.{ap, subst, inl, inr, ⊎_elim, arith}
 use Rattle.std.proofs.Math.Path.{subst⁻¹}
 use Rattle.std.proofs.Math.Logic.{by_cases}
 use Rattle.std.proofs.Math.Decide.{dec_lt}
 use Rattle.std.specs.Borrow.{Bor}
 use Rattle.sevens.specs.declared.Raw.{Raw}
 use Rattle.sevens.specs.declared.Raw.TheVariants.{Cut, Long, Value}
-use Rattle.sevens.specs.Sevens.{pick, Answer, refused, accepted, limited, raw_of, number_of, Read}
+use Rattle.sevens.specs.Sevens.{pick, Answer, refused, limited, raw_of, number_of, Read}
 use Rattle.table.specs.declared.Table.{Table}
 use Rattle.table.specs.declared.Checked.{Checked}
-use Rattle.table.specs.Form.{empty_table}
 use Rattle.table.specs.Fields.{FirstBad, Judged, within_or_first_bad}
 use Rattle.rulefile.specs.declared.FileRead.{FileRead}
 use Rattle.rulefile.specs.declared.Written.{Written}

@@ -11,8 +11,8 @@
 --   a simulation               simulation_exists
 --   a bid, two bids, the better of two     bid_exists, laid_exists, better_exists
 --   a report                   text_exists
-use Rattle.std.specs.Prelude.{◌≡◌, refl, ◌⊎◌, List, [], ◌++◌, ℕ, ◌*◌, ◌≤◌, ◌<◌, length, get_or, drop}
-use Rattle.std.proofs.Common.{sym, ap, ◌∙◌, subst, inl, inr, ⊎_elim, arith, mul_comm}
+use Rattle.std.specs.Prelude.{◌≡◌, refl, List, [], ◌++◌, ℕ, ◌*◌, ◌≤◌, ◌<◌, length, get_or, drop}
+use Rattle.std.proofs.Common.{sym, ap, subst, inl, inr, ⊎_elim, arith, mul_comm}
 use Rattle.std.proofs.Math.Logic.{by_cases}
 use Rattle.std.proofs.Math.Logic.Dec
 use Rattle.std.proofs.Math.Decide.{dec_le, dec_lt}

@@ -9,3 +9,4 @@ pub mod Columns
 pub mod Demand2
 pub mod Demand3
 pub mod Unused
+pub mod Witness

@@ -33,7 +33,7 @@ use Rattle.engine.specs.Verdict.{Verdict, outside, knotted, flat, wide, found, W
 use Rattle.rulefile.specs.File.{rule_bytes, rules_bytes, file_of, refused_write, written_as, Writes}
 use Rattle.period.specs.Promise.{Outcome, outcome_of, AnalysisOf}
 use Rattle.rates.specs.Rate.{RateVerdict, bad_field, no_name, knot_at, unreached, too_wide, rated, JudgesRate, rated_of, RateOf}
-use Rattle.simulation.specs.Simulation.{NoBlank, FirstBlank, Refused, Answered, SimulationOf}
+use Rattle.simulation.specs.Simulation.{NoBlank, Refused, Answered, SimulationOf}
 use Rattle.demands.specs.Exists.{Buffers}
 use Rattle.demands.specs.Filled.{FilledDelay, Filled, bad_filled, within_filled}
 

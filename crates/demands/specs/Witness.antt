@@ -1,0 +1,238 @@
+-- NONE OF THE DEMANDS IS EMPTY: theorems of Demand1 to Demand3 and Unused, applied to blocks worked by hand (worked/Blocks). A hypothesis that no table meets is
+-- refused here.
+--
+--   P1                  0>1/0/3, 1>0/1/4: all delays given
+--   P3                  0>1/0/3, 1>0/1/?: P1 with a blank; p3_filled: filled with 4 it is P1
+--   P7, P9              0>0/0/0: a loop without a turn; and no rule at all
+--   lent                three buffers of three places
+--
+--   p1_answers, p3_answers     the laps' answers (crate laps) are those of the tables
+--   analysis_p1         THE PERIOD of P1 is 7/1, with its loop and its schedule; given_p1: as Demand2 says it
+--   refused_p7, refused_p9     the two lists that are refused
+--   analysis_p3         the ends of P3 are 3/1 and 1000003/1, not exact
+--   filling_p3          and filling the blank moves both to 7/1
+use Rattle.std.specs.Prelude.{◌≡◌, refl, true, false, [], ◌∷◌, ℕ, zero, suc, ◌<◌, get_or}
+use Rattle.std.proofs.Common.{ap, ◌∙◌, subst, arith}
+use Rattle.std.proofs.Math.Path.{subst⁻¹, fun_ext}
+use Rattle.model.specs.Shape.{Shape}
+use Rattle.model.specs.Loop.{Loop, NoLoop, Live}
+use Rattle.model.specs.Knot.{Knot}
+use Rattle.model.specs.Filling.{Ranges}
+use Rattle.model.specs.Answer.{Answer, Answers}
+use Rattle.theory.specs.Rank.{ZeroRanks, ranks_live}
+use Rattle.table.specs.declared.Table.{Table}
+use Rattle.table.specs.Form.{unused_rule, rule_of}
+use Rattle.table.specs.Fields.{RuleWithin, Within}
+use Rattle.table.specs.Meaning.{shape_of, ranges_of}
+use Rattle.engine.specs.Verdict.{Verdict, found, Judges, never_wide_at, verdict_unique}
+use Rattle.period.specs.Promise.{Outcome, outcome, end_of, refused_analysis, outcome_of, AnalysisOf}
+use Rattle.laps.specs.Lists as laps
+use Rattle.laps.specs.Laps.{lap_1, lap_3, line_1, line_3}
+use Rattle.worked.specs.Blocks.{P1, P3, P7, P9}
+use Rattle.demands.specs.Exists.{Buffers, buffers, DelaysAre}
+use Rattle.demands.specs.Filled.{FilledRule, Filled, shape_filled}
+use Rattle.demands.specs.Refused.{Room}
+use Rattle.demands.specs.Demand2.{exact_analysis, GivenPeriod, given_period, knot_refused, flat_refused}
+use Rattle.demands.specs.Demand3.{Inward, analysis_inward}
+
+-- ------------------------------------------------------------------------------------------------------------------------------------ the blocks
+
+abbrev pub lent : Buffers
+lent = buffers (9 ∷ 9 ∷ 9 ∷ []) (9 ∷ 9 ∷ 9 ∷ []) (9 ∷ 9 ∷ 9 ∷ [])
+
+p1_within : Within P1
+p1_within = record { n_low = omega arith; n_high = omega arith; m_high = omega arith; rule = each }
+  where
+    each : (r : ℕ) → r < P1.m → RuleWithin P1.n (get_or P1.rules r unused_rule)
+    each zero b = record { source = omega arith; target = omega arith; offset = omega arith; delay = omega arith }
+    each (suc zero) b = record { source = omega arith; target = omega arith; offset = omega arith; delay = omega arith }
+    each (suc (suc r)) b = absurd (omega arith)
+
+p3_within : Within P3
+p3_within = record { n_low = omega arith; n_high = omega arith; m_high = omega arith; rule = each }
+  where
+    each : (r : ℕ) → r < P3.m → RuleWithin P3.n (get_or P3.rules r unused_rule)
+    each zero b = record { source = omega arith; target = omega arith; offset = omega arith; delay = omega arith }
+    each (suc zero) b = record { source = omega arith; target = omega arith; offset = omega arith; delay = tt }
+    each (suc (suc r)) b = absurd (omega arith)
+
+-- THE BLANK OF P3 FILLED WITH 4 GIVES P1
+pub p3_filled : Filled P3 P1
+p3_filled = record { n_same = refl; m_same = refl; rules = each }
+  where
+    each : (r : ℕ) → r < P3.m → FilledRule (rule_of P3 r) (rule_of P1 r)
+    each zero b = record { source = refl; target = refl; offset = refl; delay = refl }
+    each (suc zero) b = record { source = refl; target = refl; offset = refl; delay = omega arith }
+    each (suc (suc r)) b = absurd (omega arith)
+
+-- its two rules, with any delays, turn: transition 1 ranks above transition 0
+p1_ranks : ZeroRanks (shape_of P1) (0 ∷ 1 ∷ [])
+p1_ranks zero b e = omega arith
+p1_ranks (suc zero) b e = absurd (omega arith)
+p1_ranks (suc (suc r)) b e = absurd (omega arith)
+
+p1_live : Live (shape_of P1)
+p1_live = ranks_live (shape_of P1) (0 ∷ 1 ∷ []) p1_ranks
+
+p1_loop : Loop (shape_of P1) 0 (0 ∷ 1 ∷ [])
+p1_loop = omega arith
+
+p3_live : Live (shape_of P3)
+p3_live = subst⁻¹ Live (shape_filled P3 P1 p3_filled) p1_live
+
+p3_loop : Loop (shape_of P3) 0 (0 ∷ 1 ∷ [])
+p3_loop = omega arith
+
+-- the delays of P1
+unfoldable pub delays_p1 : ℕ → ℕ
+delays_p1 zero = 3
+delays_p1 (suc r) = 4
+
+p1_known : DelaysAre P1 delays_p1
+unfolding delays_p1
+p1_known zero b = refl
+p1_known (suc zero) b = refl
+p1_known (suc (suc r)) b = absurd (omega arith)
+
+-- -------------------------------------------------------------------------------------------------------------------- the laps' rules and the tables
+
+shape_by : (S T : Shape) → S.rules ≡ T.rules → ((r : ℕ) → S.source r ≡ T.source r) → ((r : ℕ) → S.target r ≡ T.target r) → ((r : ℕ) → S.offset r ≡ T.offset r) → S ≡ T
+shape_by S T e f g h i = record { rules = e i; source = fun_ext f i; target = fun_ext g i; offset = fun_ext h i }
+
+ranges_by : (K L : Ranges) → ((r : ℕ) → K.least r ≡ L.least r) → ((r : ℕ) → K.greatest r ≡ L.greatest r) → K ≡ L
+ranges_by K L f g i = record { least = fun_ext f i; greatest = fun_ext g i }
+
+p1_shape : laps.shape_of lap_1.rules ≡ shape_of P1
+p1_shape = shape_by (laps.shape_of lap_1.rules) (shape_of P1) refl source target offset
+  where
+    source : (r : ℕ) → (laps.shape_of lap_1.rules).source r ≡ (shape_of P1).source r
+    source zero = refl
+    source (suc zero) = refl
+    source (suc (suc r)) = refl
+
+    target : (r : ℕ) → (laps.shape_of lap_1.rules).target r ≡ (shape_of P1).target r
+    target zero = refl
+    target (suc zero) = refl
+    target (suc (suc r)) = refl
+
+    offset : (r : ℕ) → (laps.shape_of lap_1.rules).offset r ≡ (shape_of P1).offset r
+    offset zero = refl
+    offset (suc zero) = refl
+    offset (suc (suc r)) = refl
+
+p1_ranges : laps.ranges_of lap_1.rules ≡ ranges_of P1
+p1_ranges = ranges_by (laps.ranges_of lap_1.rules) (ranges_of P1) least greatest
+  where
+    least : (r : ℕ) → (laps.ranges_of lap_1.rules).least r ≡ (ranges_of P1).least r
+    least zero = refl
+    least (suc zero) = refl
+    least (suc (suc r)) = refl
+
+    greatest : (r : ℕ) → (laps.ranges_of lap_1.rules).greatest r ≡ (ranges_of P1).greatest r
+    greatest zero = refl
+    greatest (suc zero) = refl
+    greatest (suc (suc r)) = refl
+
+abbrev pub answer_1 : Answer
+answer_1 = record { ends = record { low_p = 7; low_q = 1; high_p = 7; high_q = 1; exact = true }; low_loop = 0 ∷ 1 ∷ []; high_loop = 0 ∷ 1 ∷ []; schedule = 0 ∷ 3 ∷ [] }
+
+pub p1_answers : Answers (shape_of P1) (ranges_of P1) 2 answer_1
+p1_answers =
+    subst (λ (K : Ranges). Answers (shape_of P1) K 2 answer_1) p1_ranges
+    (subst (λ (S : Shape). Answers S (laps.ranges_of lap_1.rules) 2 answer_1) p1_shape line_1.0)
+
+p1_judged : Judges P1 (found answer_1)
+p1_judged = (p1_within, p1_live, p1_answers, never_wide_at P1 p1_within answer_1 p1_answers)
+
+-- --------------------------------------------------------------------------------------------------------------------------------- the theorems
+
+-- an analysis of a table on which a verdict is known, with these buffers lent
+by_verdict : (t : Table) (v : Verdict) → Judges t v → (o : Outcome) → AnalysisOf t lent.schedule lent.low lent.high o → o ≡ outcome_of t.n v lent.schedule lent.low lent.high
+by_verdict t v j o is = is.result ∙ ap (λ z. outcome_of t.n z lent.schedule lent.low lent.high) (verdict_unique t is.verdict v is.judged j)
+
+-- THE PERIOD OF P1, its loop in two buffers and its schedule in the third; the third places stay
+pub analysis_p1 : (o : Outcome) → AnalysisOf P1 lent.schedule lent.low lent.high o
+    → o ≡ outcome (exact_analysis 7 1 2) (0 ∷ 3 ∷ 9 ∷ []) (0 ∷ 1 ∷ 9 ∷ []) (0 ∷ 1 ∷ 9 ∷ [])
+analysis_p1 o is = by_verdict P1 (found answer_1) p1_judged o is
+
+pub given_p1 : (o : Outcome) → AnalysisOf P1 lent.schedule lent.low lent.high o → GivenPeriod P1 delays_p1 lent o
+given_p1 o is = given_period P1 delays_p1 p1_known lent o is (ap (λ (z : Outcome). z.result.refusal) (analysis_p1 o is))
+
+-- P3 HAS TWO ENDS
+abbrev pub answer_3 : Answer
+answer_3 = record { ends = record { low_p = 3; low_q = 1; high_p = 1000003; high_q = 1; exact = false }; low_loop = 0 ∷ 1 ∷ []; high_loop = 0 ∷ 1 ∷ []; schedule = 0 ∷ 3 ∷ [] }
+
+p3_shape : laps.shape_of lap_3.rules ≡ shape_of P3
+p3_shape = shape_by (laps.shape_of lap_3.rules) (shape_of P3) refl source target offset
+  where
+    source : (r : ℕ) → (laps.shape_of lap_3.rules).source r ≡ (shape_of P3).source r
+    source zero = refl
+    source (suc zero) = refl
+    source (suc (suc r)) = refl
+
+    target : (r : ℕ) → (laps.shape_of lap_3.rules).target r ≡ (shape_of P3).target r
+    target zero = refl
+    target (suc zero) = refl
+    target (suc (suc r)) = refl
+
+    offset : (r : ℕ) → (laps.shape_of lap_3.rules).offset r ≡ (shape_of P3).offset r
+    offset zero = refl
+    offset (suc zero) = refl
+    offset (suc (suc r)) = refl
+
+p3_ranges : laps.ranges_of lap_3.rules ≡ ranges_of P3
+p3_ranges = ranges_by (laps.ranges_of lap_3.rules) (ranges_of P3) least greatest
+  where
+    least : (r : ℕ) → (laps.ranges_of lap_3.rules).least r ≡ (ranges_of P3).least r
+    least zero = refl
+    least (suc zero) = refl
+    least (suc (suc r)) = refl
+
+    greatest : (r : ℕ) → (laps.ranges_of lap_3.rules).greatest r ≡ (ranges_of P3).greatest r
+    greatest zero = refl
+    greatest (suc zero) = refl
+    greatest (suc (suc r)) = refl
+
+pub p3_answers : Answers (shape_of P3) (ranges_of P3) 2 answer_3
+p3_answers =
+    subst (λ (K : Ranges). Answers (shape_of P3) K 2 answer_3) p3_ranges
+    (subst (λ (S : Shape). Answers S (laps.ranges_of lap_3.rules) 2 answer_3) p3_shape line_3.0)
+
+pub analysis_p3 : (o : Outcome) → AnalysisOf P3 lent.schedule lent.low lent.high o
+    → o ≡ outcome (record { refusal = 0; place = 0; exact = false; low = end_of 3 1 2; high = end_of 1000003 1 2 }) (0 ∷ 3 ∷ 9 ∷ []) (0 ∷ 1 ∷ 9 ∷ []) (0 ∷ 1 ∷ 9 ∷ [])
+analysis_p3 o is = by_verdict P3 (found answer_3) (p3_within, p3_live, p3_answers, never_wide_at P3 p3_within answer_3 p3_answers) o is
+
+-- FILLING ITS BLANK
+pub filling_p3 : (o o' : Outcome) → AnalysisOf P3 lent.schedule lent.low lent.high o → AnalysisOf P1 lent.schedule lent.low lent.high o' → Inward o o'
+filling_p3 o o' x y = analysis_inward P3 P1 p3_filled lent o o' x y
+
+-- A LOOP WITHOUT A TURN
+p7_within : Within P7
+p7_within = record { n_low = omega arith; n_high = omega arith; m_high = omega arith; rule = each }
+  where
+    each : (r : ℕ) → r < P7.m → RuleWithin P7.n (get_or P7.rules r unused_rule)
+    each zero b = record { source = omega arith; target = omega arith; offset = omega arith; delay = omega arith }
+    each (suc r) b = absurd (omega arith)
+
+p7_knot : Knot (shape_of P7) 0
+p7_knot = record { loop = 0 ∷ []; is_loop = omega arith; no_turn = refl; lowest = λ w qs l e. omega arith }
+
+p7_room : Room P7 lent.schedule lent.low lent.high
+p7_room = omega arith
+
+pub refused_p7 : (o : Outcome) → AnalysisOf P7 lent.schedule lent.low lent.high o → o ≡ outcome (refused_analysis 5 0) lent.schedule lent.low lent.high
+refused_p7 o is = knot_refused P7 p7_within lent p7_room o is 0 p7_knot
+
+-- NO RULE AT ALL
+p9_within : Within P9
+p9_within = record { n_low = omega arith; n_high = omega arith; m_high = omega arith; rule = λ r b. absurd (omega arith) }
+
+p9_none : NoLoop (shape_of P9)
+p9_none u [] l = absurd (omega (arith, l.some_rule))
+p9_none u (r ∷ rs) l = absurd (omega (arith, l.closed.0))
+
+p9_room : Room P9 lent.schedule lent.low lent.high
+p9_room = omega arith
+
+pub refused_p9 : (o : Outcome) → AnalysisOf P9 lent.schedule lent.low lent.high o → o ≡ outcome (refused_analysis 6 0) lent.schedule lent.low lent.high
+refused_p9 o is = flat_refused P9 p9_within lent p9_room o is p9_none
