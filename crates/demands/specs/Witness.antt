@@ -11,29 +11,40 @@
 --   refused_p7, refused_p9     the two lists that are refused
 --   analysis_p3         the ends of P3 are 3/1 and 1000003/1, not exact
 --   filling_p3          and filling the blank moves both to 7/1
-use Rattle.std.specs.Prelude.{◌≡◌, refl, true, false, [], ◌∷◌, ℕ, zero, suc, ◌<◌, get_or}
-use Rattle.std.proofs.Common.{ap, ◌∙◌, subst, arith}
+--   rate_p1, rate_p3, filling_rate_p3     the same of the rate of transition 0; given_rate_p1: as Demand2 says it
+use Rattle.std.specs.Prelude.{◌≡◌, refl, Bool, true, false, ◌⊎◌, List, [], ◌∷◌, ◌++◌, ℕ, zero, suc, ◌+◌, ◌*◌, ◌≤◌, ◌<◌, length, get_or, replicate}
+use Rattle.std.proofs.Common.{sym, ap, ◌∙◌, subst, inl, inr, ⊎_elim, arith}
 use Rattle.std.proofs.Math.Path.{subst⁻¹, fun_ext}
 use Rattle.model.specs.Shape.{Shape}
 use Rattle.model.specs.Loop.{Loop, NoLoop, Live}
 use Rattle.model.specs.Knot.{Knot}
 use Rattle.model.specs.Filling.{Ranges}
 use Rattle.model.specs.Answer.{Answer, Answers}
+use Rattle.model.specs.Ends.{Range}
+use Rattle.model.specs.Period.{Period}
+use Rattle.model.specs.Schedule.{Keeps}
+use Rattle.model.specs.Rate.{Rate, Rates}
+use Rattle.theory.specs.Period.{certified}
+use Rattle.theory.specs.Ends.{range_is}
+use Rattle.theory.specs.Rate.{rate_steady}
 use Rattle.theory.specs.Rank.{ZeroRanks, ranks_live}
 use Rattle.table.specs.declared.Table.{Table}
 use Rattle.table.specs.Form.{unused_rule, rule_of}
 use Rattle.table.specs.Fields.{RuleWithin, Within}
-use Rattle.table.specs.Meaning.{shape_of, ranges_of}
-use Rattle.engine.specs.Verdict.{Verdict, found, Judges, never_wide_at, verdict_unique}
+use Rattle.table.specs.Meaning.{shape_of, ranges_of, within_fits}
+use Rattle.engine.specs.Verdict.{Verdict, found, Judges, proper, never_wide_at, verdict_unique}
 use Rattle.period.specs.Promise.{Outcome, outcome, end_of, refused_analysis, outcome_of, AnalysisOf}
+use Rattle.rates.specs.declared.Rated.{Rated}
+use Rattle.rates.specs.Rate.{RateVerdict, rated, JudgesRate, rate_never_wide, rate_verdict_unique, answered_rate, rated_of, RateOf}
+use Rattle.laps.specs.Lists.{lowest_one}
 use Rattle.laps.specs.Lists as laps
 use Rattle.laps.specs.Laps.{lap_1, lap_3, line_1, line_3}
 use Rattle.worked.specs.Blocks.{P1, P3, P7, P9}
 use Rattle.demands.specs.Exists.{Buffers, buffers, DelaysAre}
 use Rattle.demands.specs.Filled.{FilledRule, Filled, shape_filled}
 use Rattle.demands.specs.Refused.{Room}
-use Rattle.demands.specs.Demand2.{exact_analysis, GivenPeriod, given_period, knot_refused, flat_refused}
-use Rattle.demands.specs.Demand3.{Inward, analysis_inward}
+use Rattle.demands.specs.Demand2.{exact_analysis, GivenPeriod, given_period, knot_refused, flat_refused, exact_rate, GivenRate, given_rate}
+use Rattle.demands.specs.Demand3.{Inward, analysis_inward, InwardRate, rate_inward}
 
 -- ------------------------------------------------------------------------------------------------------------------------------------ the blocks
 
@@ -236,3 +247,64 @@ p9_room = omega arith
 
 pub refused_p9 : (o : Outcome) → AnalysisOf P9 lent.schedule lent.low lent.high o → o ≡ outcome (refused_analysis 6 0) lent.schedule lent.low lent.high
 refused_p9 o is = flat_refused P9 p9_within lent p9_room o is p9_none
+
+-- ------------------------------------------------------------------------------------------------------------------------------------ the rates
+
+-- a schedule and the ring prove the period, read from transition 0, with any delays of P1's rules
+ring_period : (D : ℕ → ℕ) (P : ℕ) → D 0 ≡ 3 → 3 + D 1 ≡ P → Period (shape_of P1) D P 1
+ring_period D P e f = certified (shape_of P1) D P 1 (0 ∷ 3 ∷ []) keeps 0 (0 ∷ 1 ∷ []) (omega arith) p1_loop (omega arith) (omega (arith, e, f))
+  where
+    keeps : Keeps (shape_of P1) D P 1 (0 ∷ 3 ∷ [])
+    keeps zero b = omega (arith, e)
+    keeps (suc zero) b = omega (arith, f)
+    keeps (suc (suc r)) b = absurd (omega arith)
+
+ring_rate : (D : ℕ → ℕ) (P : ℕ) → D 0 ≡ 3 → 3 + D 1 ≡ P → Rate (shape_of P1) D 0 P 1
+ring_rate D P e f =
+    record {
+      q_pos = omega arith;
+      at = 0;
+      loop = 0 ∷ 1 ∷ [];
+      is_loop_to = record { is_loop = p1_loop; reaches = record { way = []; leads = refl } };
+      turns = omega arith;
+      attained = omega (arith, e, f);
+      highest = λ u rs l. (ring_period D P e f).highest u rs l.is_loop;
+    }
+
+by_rate_verdict : (t : Table) (v : ℕ) (x : RateVerdict) → JudgesRate t v x → (r : Rated) → RateOf t v r → r ≡ rated_of t.n x
+by_rate_verdict t v x j r is = is.result ∙ ap (rated_of t.n) (rate_verdict_unique t v is.verdict x is.judged j)
+
+abbrev range_1 : Range
+range_1 = record { low_p = 7; low_q = 1; high_p = 7; high_q = 1; exact = true }
+
+p1_rates : Rates (shape_of P1) (ranges_of P1) 0 range_1
+p1_rates =
+    range_is (shape_of P1) (ranges_of P1) (λ D. Rate (shape_of P1) D 0) (rate_steady (shape_of P1) 2 (within_fits P1 p1_within) 0) (proper P1) 7 1 7 1 true
+    (ring_rate (ranges_of P1).least 7 refl refl) (lowest_one 7) (ring_rate (ranges_of P1).greatest 7 refl refl) (lowest_one 7) (inl (refl, refl, refl))
+
+-- THE RATE OF TRANSITION 0 OF P1 is the period
+pub rate_p1 : (r : Rated) → RateOf P1 0 r → r ≡ exact_rate 7 1
+rate_p1 r is = by_rate_verdict P1 0 (rated range_1) (p1_within, omega arith, p1_live, p1_rates, rate_never_wide P1 p1_within 0 (omega arith) range_1 p1_rates) r is
+
+pub given_rate_p1 : (r : Rated) → RateOf P1 0 r → GivenRate P1 delays_p1 0 r
+given_rate_p1 r is = given_rate P1 delays_p1 p1_known 0 r is (ap (λ (z : Rated). z.refusal) (rate_p1 r is))
+
+abbrev range_3 : Range
+range_3 = record { low_p = 3; low_q = 1; high_p = 1000003; high_q = 1; exact = false }
+
+p3_rates : Rates (shape_of P3) (ranges_of P3) 0 range_3
+p3_rates =
+    range_is (shape_of P3) (ranges_of P3) (λ D. Rate (shape_of P3) D 0) (rate_steady (shape_of P3) 2 (within_fits P3 p3_within) 0) (proper P3) 3 1 1000003 1 false
+    (subst⁻¹ (λ (S : Shape). Rate S (ranges_of P3).least 0 3 1) same (ring_rate (ranges_of P3).least 3 refl refl)) (lowest_one 3)
+    (subst⁻¹ (λ (S : Shape). Rate S (ranges_of P3).greatest 0 1000003 1) same (ring_rate (ranges_of P3).greatest 1000003 refl refl)) (lowest_one 1000003)
+    (inr (λ e. omega (arith, e.0), refl))
+  where
+    same : shape_of P3 ≡ shape_of P1
+    same = shape_filled P3 P1 p3_filled
+
+-- ITS RATE IN P3
+pub rate_p3 : (r : Rated) → RateOf P3 0 r → r ≡ answered_rate range_3
+rate_p3 r is = by_rate_verdict P3 0 (rated range_3) (p3_within, omega arith, p3_live, p3_rates, rate_never_wide P3 p3_within 0 (omega arith) range_3 p3_rates) r is
+
+pub filling_rate_p3 : (r r' : Rated) → RateOf P3 0 r → RateOf P1 0 r' → InwardRate r r'
+filling_rate_p3 r r' x y = rate_inward P3 P1 p3_filled 0 r r' x y
