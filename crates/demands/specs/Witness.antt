@@ -12,14 +12,20 @@
 --   analysis_p3         the ends of P3 are 3/1 and 1000003/1, not exact
 --   filling_p3          and filling the blank moves both to 7/1
 --   rate_p1, rate_p3, filling_rate_p3     the same of the rate of transition 0; given_rate_p1: as Demand2 says it
-use Rattle.std.specs.Prelude.{◌≡◌, refl, Bool, true, false, ◌⊎◌, List, [], ◌∷◌, ◌++◌, ℕ, zero, suc, ◌+◌, ◌*◌, ◌≤◌, ◌<◌, length, get_or, replicate}
+--   simulation_p1       the times of three occurrences of P1; times_p1: as Demand2 says them
+--   text_p3             what is printed for the file of P3; filling_text_p3: and with the blank filled
+--   read_back           P1 written, and what was written read
+--   unused_p1           P1 with other contents in a place past its rules
+use Rattle.std.specs.Prelude.{◌≡◌, refl, Bool, true, false, ◌⊎◌, List, [], ◌∷◌, ◌++◌, ℕ, zero, suc, ◌+◌, ◌*◌, ◌≤◌, ◌<◌, length, get_or, take, replicate}
 use Rattle.std.proofs.Common.{sym, ap, ◌∙◌, subst, inl, inr, ⊎_elim, arith}
 use Rattle.std.proofs.Math.Path.{subst⁻¹, fun_ext}
+use Rattle.std.proofs.lemmas.List.{length-replicate}
 use Rattle.model.specs.Shape.{Shape}
 use Rattle.model.specs.Loop.{Loop, NoLoop, Live}
 use Rattle.model.specs.Knot.{Knot}
 use Rattle.model.specs.Filling.{Ranges}
 use Rattle.model.specs.Answer.{Answer, Answers}
+use Rattle.model.specs.Times.{Timed}
 use Rattle.model.specs.Ends.{Range}
 use Rattle.model.specs.Period.{Period}
 use Rattle.model.specs.Schedule.{Keeps}
@@ -28,23 +34,34 @@ use Rattle.theory.specs.Period.{certified}
 use Rattle.theory.specs.Ends.{range_is}
 use Rattle.theory.specs.Rate.{rate_steady}
 use Rattle.theory.specs.Rank.{ZeroRanks, ranks_live}
+use Rattle.theory.specs.Times.{timed_unique}
+use Rattle.table.specs.declared.Delay.{Delay}
+use Rattle.table.specs.declared.Delay.TheVariants.{Known, Unknown}
 use Rattle.table.specs.declared.Table.{Table}
-use Rattle.table.specs.Form.{unused_rule, rule_of}
+use Rattle.table.specs.Form.{unused_rule, rule_of, Unused, SameRules, all_unused}
 use Rattle.table.specs.Fields.{RuleWithin, Within}
 use Rattle.table.specs.Meaning.{shape_of, ranges_of, within_fits}
+use Rattle.rulefile.specs.declared.FileRead.{FileRead}
+use Rattle.rulefile.specs.declared.Written.{Written}
+use Rattle.rulefile.specs.File.{file_of, read_of, Writes}
+use Rattle.rulefile.specs.RoundTrip.{file_accepted}
 use Rattle.engine.specs.Verdict.{Verdict, found, Judges, proper, never_wide_at, verdict_unique}
 use Rattle.period.specs.Promise.{Outcome, outcome, end_of, refused_analysis, outcome_of, AnalysisOf}
 use Rattle.rates.specs.declared.Rated.{Rated}
 use Rattle.rates.specs.Rate.{RateVerdict, rated, JudgesRate, rate_never_wide, rate_verdict_unique, answered_rate, rated_of, RateOf}
+use Rattle.simulation.specs.declared.Simulated.{Simulated}
+use Rattle.simulation.specs.Simulation.{delays, NoBlank, SimulationOf}
+use Rattle.text.specs.Text.{verdict_text, TableText, ReadText, FileText}
 use Rattle.laps.specs.Lists.{lowest_one}
 use Rattle.laps.specs.Lists as laps
 use Rattle.laps.specs.Laps.{lap_1, lap_3, line_1, line_3}
-use Rattle.worked.specs.Blocks.{P1, P3, P7, P9}
+use Rattle.worked.specs.Blocks.{rule, P1, P3, P7, P9}
 use Rattle.demands.specs.Exists.{Buffers, buffers, DelaysAre}
 use Rattle.demands.specs.Filled.{FilledRule, Filled, shape_filled}
 use Rattle.demands.specs.Refused.{Room}
-use Rattle.demands.specs.Demand2.{exact_analysis, GivenPeriod, given_period, knot_refused, flat_refused, exact_rate, GivenRate, given_rate}
-use Rattle.demands.specs.Demand3.{Inward, analysis_inward, InwardRate, rate_inward}
+use Rattle.demands.specs.Demand2.{exact_analysis, GivenPeriod, given_period, knot_refused, flat_refused, exact_rate, GivenRate, given_rate, SimulatedTimes, simulation_times, table_read_back}
+use Rattle.demands.specs.Demand3.{Inward, analysis_inward, InwardRate, rate_inward, InwardText, text_inward}
+use Rattle.demands.specs.Unused.{analysis_unused}
 
 -- ------------------------------------------------------------------------------------------------------------------------------------ the blocks
 
@@ -209,9 +226,12 @@ p3_answers =
     subst (λ (K : Ranges). Answers (shape_of P3) K 2 answer_3) p3_ranges
     (subst (λ (S : Shape). Answers S (laps.ranges_of lap_3.rules) 2 answer_3) p3_shape line_3.0)
 
+p3_judged : Judges P3 (found answer_3)
+p3_judged = (p3_within, p3_live, p3_answers, never_wide_at P3 p3_within answer_3 p3_answers)
+
 pub analysis_p3 : (o : Outcome) → AnalysisOf P3 lent.schedule lent.low lent.high o
     → o ≡ outcome (record { refusal = 0; place = 0; exact = false; low = end_of 3 1 2; high = end_of 1000003 1 2 }) (0 ∷ 3 ∷ 9 ∷ []) (0 ∷ 1 ∷ 9 ∷ []) (0 ∷ 1 ∷ 9 ∷ [])
-analysis_p3 o is = by_verdict P3 (found answer_3) (p3_within, p3_live, p3_answers, never_wide_at P3 p3_within answer_3 p3_answers) o is
+analysis_p3 o is = by_verdict P3 (found answer_3) p3_judged o is
 
 -- FILLING ITS BLANK
 pub filling_p3 : (o o' : Outcome) → AnalysisOf P3 lent.schedule lent.low lent.high o → AnalysisOf P1 lent.schedule lent.low lent.high o' → Inward o o'
@@ -308,3 +328,79 @@ rate_p3 r is = by_rate_verdict P3 0 (rated range_3) (p3_within, omega arith, p3_
 
 pub filling_rate_p3 : (r r' : Rated) → RateOf P3 0 r → RateOf P1 0 r' → InwardRate r r'
 filling_rate_p3 r r' x y = rate_inward P3 P1 p3_filled 0 r r' x y
+
+-- ------------------------------------------------------------------------------------------------------------------------------------ the times
+
+abbrev pub zeros : List ℕ
+zeros = 0 ∷ 0 ∷ 0 ∷ 0 ∷ 0 ∷ 0 ∷ []
+
+unknown_not : (d : ℕ) → ¬ (Known d ≡ Unknown)
+unknown_not d e = let z : ◌≡◌ {A = ℕ} 0 1 = cc in omega arith
+
+p1_unblank : NoBlank P1
+p1_unblank zero b = let e : Known 3 ≡ Unknown = b.1 in unknown_not 3 e
+p1_unblank (suc zero) b = let e : Known 4 ≡ Unknown = b.1 in unknown_not 4 e
+p1_unblank (suc (suc r)) b = absurd (omega (arith, b.0))
+
+p1_times : Timed (shape_of P1) (ranges_of P1).least 3 2 zeros (0 ∷ 3 ∷ 7 ∷ 10 ∷ 14 ∷ 17 ∷ [])
+p1_times =
+    subst (λ (K : Ranges). Timed (shape_of P1) K.least 3 2 zeros (0 ∷ 3 ∷ 7 ∷ 10 ∷ 14 ∷ 17 ∷ [])) p1_ranges
+    (subst (λ (S : Shape). Timed S (laps.ranges_of lap_1.rules).least 3 2 zeros (0 ∷ 3 ∷ 7 ∷ 10 ∷ 14 ∷ 17 ∷ [])) p1_shape line_1.1)
+
+-- THREE OCCURRENCES OF P1, simulated
+pub simulation_p1 : (r : Simulated) (out : List ℕ) → SimulationOf P1 3 zeros r out → (r.refusal ≡ 0) × (out ≡ 0 ∷ 3 ∷ 7 ∷ 10 ∷ 14 ∷ 17 ∷ [])
+simulation_p1 r out x =
+    let a = x.simulated p1_within (omega arith, omega arith) p1_unblank (omega arith) p1_live in
+    (a.number, timed_unique (shape_of P1) (delays P1) 3 2 (within_fits P1 p1_within) p1_live (omega arith) zeros out (0 ∷ 3 ∷ 7 ∷ 10 ∷ 14 ∷ 17 ∷ []) a.times p1_times)
+
+pub times_p1 : (r : Simulated) (out : List ℕ) → SimulationOf P1 3 zeros r out → SimulatedTimes P1 delays_p1 3 out
+times_p1 r out x = simulation_times P1 delays_p1 p1_known 3 zeros r out x (simulation_p1 r out x).0
+
+-- ------------------------------------------------------------------------------------------------------------------------------------ the files
+
+p1_unused : Unused P1
+p1_unused = record { places = ap (λ k. suc (suc k)) (length-replicate 2046 unused_rule); unused = each }
+  where
+    each : (r : ℕ) → P1.m ≤ r → rule_of P1 r ≡ unused_rule
+    each zero b = absurd (omega arith)
+    each (suc zero) b = absurd (omega arith)
+    each (suc (suc r)) b = all_unused 2046 r
+
+p3_unused : Unused P3
+p3_unused = record { places = ap (λ k. suc (suc k)) (length-replicate 2046 unused_rule); unused = each }
+  where
+    each : (r : ℕ) → P3.m ≤ r → rule_of P3 r ≡ unused_rule
+    each zero b = absurd (omega arith)
+    each (suc zero) b = absurd (omega arith)
+    each (suc (suc r)) b = all_unused 2046 r
+
+-- WHAT IS PRINTED FOR THE FILE OF P3, and for that of P1
+pub text_p3 : (x : List ℕ) → FileText (file_of P3) x → x ≡ verdict_text (found answer_3)
+text_p3 x is =
+    let y : TableText P3 x = (subst (λ (z : FileRead). ReadText z x) (file_accepted P3 p3_within p3_unused) is).accepted (omega arith) in
+    y.result ∙ ap verdict_text (verdict_unique P3 y.verdict (found answer_3) y.judged p3_judged)
+
+pub filling_text_p3 : (x x' : List ℕ) → FileText (file_of P3) x → FileText (file_of P1) x' → InwardText x x'
+filling_text_p3 x x' is is' =
+    text_inward (file_of P3) (file_of P1) P3 P1 (file_accepted P3 p3_within p3_unused) (file_accepted P1 p1_within p1_unused) p3_filled x x' is is'
+
+-- THE FILE OF P1 READ BACK, from where it was written
+pub read_back : (out : List ℕ) (w : Written) (after : List ℕ) → Writes P1 out w after → w.refusal ≡ 0 → SameRules P1 (read_of (take w.count after)).table
+read_back out w after is none = (table_read_back P1 out w after is none (read_of (take w.count after)) refl).1
+
+-- ------------------------------------------------------------------------------------------------------------------------------- unused places
+
+-- P1 with other contents past its rules
+abbrev pub littered : Table
+littered = record { n = 2; m = 2; rules = rule 0 1 0 (Known 3) ∷ rule 1 0 1 (Known 4) ∷ rule 1 1 7 (Known 9) ∷ [] }
+
+littered_same : SameRules P1 littered
+littered_same = record { same_n = refl; same_m = refl; same_rule = each }
+  where
+    each : (r : ℕ) → r < P1.m → rule_of littered r ≡ rule_of P1 r
+    each zero b = refl
+    each (suc zero) b = refl
+    each (suc (suc r)) b = absurd (omega arith)
+
+pub unused_p1 : (o : Outcome) → AnalysisOf P1 lent.schedule lent.low lent.high o → AnalysisOf littered lent.schedule lent.low lent.high o
+unused_p1 o is = analysis_unused P1 littered littered_same lent o is
