@@ -7,17 +7,17 @@
 --   lent                three buffers of three places
 --
 --   p1_answers, p3_answers     the laps' answers (crate laps) are those of the tables
---   analysis_p1         THE PERIOD of P1 is 7/1, with its loop and its schedule; given_p1: as Demand2 says it
---   refused_p7, refused_p9     the two lists that are refused
+--   analysis_p1         THE PERIOD of P1 is 7/1, with its loop and its schedule; some_p1: there is an outcome, and it is this; given_p1: as Demand2 says it
+--   refused_p7, refused_p9     the two lists that are refused; kept_p7: as Demand1 says it
 --   analysis_p3         the ends of P3 are 3/1 and 1000003/1, not exact
 --   filling_p3          and filling the blank moves both to 7/1
 --   rate_p1, rate_p3, filling_rate_p3     the same of the rate of transition 0; given_rate_p1: as Demand2 says it
 --   simulation_p1       the times of three occurrences of P1; times_p1: as Demand2 says them
 --   text_p3             what is printed for the file of P3; filling_text_p3: and with the blank filled
---   read_back           P1 written, and what was written read
+--   written_back, read_back    the file of P1 read and then written, and P1 written and then read
 --   unused_p1           P1 with other contents in a place past its rules
-use Rattle.std.specs.Prelude.{◌≡◌, refl, Bool, true, false, ◌⊎◌, List, [], ◌∷◌, ◌++◌, ℕ, zero, suc, ◌+◌, ◌*◌, ◌≤◌, ◌<◌, length, get_or, take, replicate}
-use Rattle.std.proofs.Common.{sym, ap, ◌∙◌, subst, inl, inr, ⊎_elim, arith}
+use Rattle.std.specs.Prelude.{◌≡◌, refl, true, false, List, [], ◌∷◌, ◌++◌, ℕ, zero, suc, ◌+◌, ◌≤◌, ◌<◌, length, get_or, take, drop}
+use Rattle.std.proofs.Common.{sym, ap, ◌∙◌, subst, inl, inr, arith}
 use Rattle.std.proofs.Math.Path.{subst⁻¹, fun_ext}
 use Rattle.std.proofs.lemmas.List.{length-replicate}
 use Rattle.model.specs.Shape.{Shape}
@@ -35,7 +35,7 @@ use Rattle.theory.specs.Ends.{range_is}
 use Rattle.theory.specs.Rate.{rate_steady}
 use Rattle.theory.specs.Rank.{ZeroRanks, ranks_live}
 use Rattle.theory.specs.Times.{timed_unique}
-use Rattle.table.specs.declared.Delay.{Delay}
+use Rattle.sevens.specs.Sevens.{code_in, code_of, Bytes}
 use Rattle.table.specs.declared.Delay.TheVariants.{Known, Unknown}
 use Rattle.table.specs.declared.Table.{Table}
 use Rattle.table.specs.Form.{unused_rule, rule_of, Unused, SameRules, all_unused}
@@ -43,7 +43,7 @@ use Rattle.table.specs.Fields.{RuleWithin, Within}
 use Rattle.table.specs.Meaning.{shape_of, ranges_of, within_fits}
 use Rattle.rulefile.specs.declared.FileRead.{FileRead}
 use Rattle.rulefile.specs.declared.Written.{Written}
-use Rattle.rulefile.specs.File.{file_of, read_of, Writes}
+use Rattle.rulefile.specs.File.{rule_bytes, rules_bytes, file_of, read_of, accepted_read, written_as, Writes}
 use Rattle.rulefile.specs.RoundTrip.{file_accepted}
 use Rattle.engine.specs.Verdict.{Verdict, found, Judges, proper, never_wide_at, verdict_unique}
 use Rattle.period.specs.Promise.{Outcome, outcome, end_of, refused_analysis, outcome_of, AnalysisOf}
@@ -56,10 +56,11 @@ use Rattle.laps.specs.Lists.{lowest_one}
 use Rattle.laps.specs.Lists as laps
 use Rattle.laps.specs.Laps.{lap_1, lap_3, line_1, line_3}
 use Rattle.worked.specs.Blocks.{rule, P1, P3, P7, P9}
-use Rattle.demands.specs.Exists.{Buffers, buffers, DelaysAre}
+use Rattle.demands.specs.Exists.{Buffers, buffers, DelaysAre, analysis_exists}
 use Rattle.demands.specs.Filled.{FilledRule, Filled, shape_filled}
 use Rattle.demands.specs.Refused.{Room}
-use Rattle.demands.specs.Demand2.{exact_analysis, GivenPeriod, given_period, knot_refused, flat_refused, exact_rate, GivenRate, given_rate, SimulatedTimes, simulation_times, table_read_back}
+use Rattle.demands.specs.Demand1.{analysis_refused}
+use Rattle.demands.specs.Demand2.{exact_analysis, GivenPeriod, given_period, knot_refused, flat_refused, exact_rate, GivenRate, given_rate, SimulatedTimes, simulation_times, file_written_back, table_read_back}
 use Rattle.demands.specs.Demand3.{Inward, analysis_inward, InwardRate, rate_inward, InwardText, text_inward}
 use Rattle.demands.specs.Unused.{analysis_unused}
 
@@ -183,6 +184,10 @@ pub analysis_p1 : (o : Outcome) → AnalysisOf P1 lent.schedule lent.low lent.hi
     → o ≡ outcome (exact_analysis 7 1 2) (0 ∷ 3 ∷ 9 ∷ []) (0 ∷ 1 ∷ 9 ∷ []) (0 ∷ 1 ∷ 9 ∷ [])
 analysis_p1 o is = by_verdict P1 (found answer_1) p1_judged o is
 
+-- there is an outcome, and it is this one
+pub some_p1 : (o : Outcome) × AnalysisOf P1 lent.schedule lent.low lent.high o × (o ≡ outcome (exact_analysis 7 1 2) (0 ∷ 3 ∷ 9 ∷ []) (0 ∷ 1 ∷ 9 ∷ []) (0 ∷ 1 ∷ 9 ∷ []))
+some_p1 = let (o, is) = analysis_exists P1 lent in (o, is, analysis_p1 o is)
+
 pub given_p1 : (o : Outcome) → AnalysisOf P1 lent.schedule lent.low lent.high o → GivenPeriod P1 delays_p1 lent o
 given_p1 o is = given_period P1 delays_p1 p1_known lent o is (ap (λ (z : Outcome). z.result.refusal) (analysis_p1 o is))
 
@@ -253,6 +258,9 @@ p7_room = omega arith
 
 pub refused_p7 : (o : Outcome) → AnalysisOf P7 lent.schedule lent.low lent.high o → o ≡ outcome (refused_analysis 5 0) lent.schedule lent.low lent.high
 refused_p7 o is = knot_refused P7 p7_within lent p7_room o is 0 p7_knot
+
+pub kept_p7 : (o : Outcome) → AnalysisOf P7 lent.schedule lent.low lent.high o → o ≡ outcome (refused_analysis o.result.refusal o.result.place) lent.schedule lent.low lent.high
+kept_p7 o is = let e = ap (λ (z : Outcome). z.result.refusal) (refused_p7 o is) in analysis_refused P7 lent o is (omega arith)
 
 -- NO RULE AT ALL
 p9_within : Within P9
@@ -383,6 +391,33 @@ text_p3 x is =
 pub filling_text_p3 : (x x' : List ℕ) → FileText (file_of P3) x → FileText (file_of P1) x' → InwardText x x'
 filling_text_p3 x x' is is' =
     text_inward (file_of P3) (file_of P1) P3 P1 (file_accepted P3 p3_within p3_unused) (file_accepted P1 p1_within p1_unused) p3_filled x x' is is'
+
+-- THE BYTES OF THE FILE OF P1, read and then written
+abbrev pub bytes_1 : List ℕ
+bytes_1 = 2 ∷ 2 ∷ 0 ∷ 1 ∷ 0 ∷ 4 ∷ 1 ∷ 0 ∷ 1 ∷ 5 ∷ []
+
+pub file_p1 : file_of P1 ≡ bytes_1
+unfolding file_of rules_bytes rule_bytes code_of code_in
+file_p1 = refl
+
+p1_bytes : Bytes bytes_1
+p1_bytes zero = omega arith
+p1_bytes (suc zero) = omega arith
+p1_bytes (suc (suc zero)) = omega arith
+p1_bytes (suc (suc (suc zero))) = omega arith
+p1_bytes (suc (suc (suc (suc zero)))) = omega arith
+p1_bytes (suc (suc (suc (suc (suc zero))))) = omega arith
+p1_bytes (suc (suc (suc (suc (suc (suc zero)))))) = omega arith
+p1_bytes (suc (suc (suc (suc (suc (suc (suc zero))))))) = omega arith
+p1_bytes (suc (suc (suc (suc (suc (suc (suc (suc zero)))))))) = omega arith
+p1_bytes (suc (suc (suc (suc (suc (suc (suc (suc (suc zero))))))))) = omega arith
+p1_bytes (suc (suc (suc (suc (suc (suc (suc (suc (suc (suc k)))))))))) = omega arith
+
+p1_read : read_of bytes_1 ≡ accepted_read P1
+p1_read = ap read_of (sym file_p1) ∙ file_accepted P1 p1_within p1_unused
+
+pub written_back : (out : List ℕ) → 10 ≤ length out → (w : Written) (after : List ℕ) → Writes P1 out w after → (w ≡ written_as 10) × (after ≡ bytes_1 ++ drop 10 out)
+written_back out room w after is = file_written_back bytes_1 p1_bytes (accepted_read P1) (sym p1_read) refl out room w after is
 
 -- THE FILE OF P1 READ BACK, from where it was written
 pub read_back : (out : List ℕ) (w : Written) (after : List ℕ) → Writes P1 out w after → w.refusal ≡ 0 → SameRules P1 (read_of (take w.count after)).table
