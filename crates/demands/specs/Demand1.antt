@@ -15,6 +15,8 @@
 --   better               better_exists                                better_unique
 --   report               text_exists                                  text_unique
 --
+-- Of the calls that C has only the reading into columns is spoken of (Columns): crate cperiod is a static library, on which no crate can be built.
+--
 -- A REFUSAL, a number above 0, HANDS BACK NUMBER AND PLACE ALONE, AND EVERY LENT BUFFER IS AS IT WAS:
 --
 --   number_refused, check_refused, reading_refused, writing_refused, analysis_refused, rate_refused, simulation_refused, bid_refused, better_refused

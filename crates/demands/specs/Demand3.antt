@@ -9,7 +9,7 @@
 --   analysis_exact       EXACT PRECISELY WHEN THE ENDS MEET
 --   rate_ends, rate_exact    the same of a rate
 --   Filled t t'          == t' is t with some blanks filled (Filled)
---   EndsInward a b       == neither end of b lies outside those of a, and an exact a stays as it is (Filled); exact_kept: all of it does
+--   EndsInward a b       == neither end of b lies outside those of a, and an exact a stays as it is (Filled); exact_kept: then b is a
 --   Inward o o', analysis_inward        FILLING, between what two analyses hand back
 --   InwardRate r r', rate_inward        between what two rates hand back
 --   InwardText x x', text_inward        between what is printed for two files

@@ -1,4 +1,4 @@
--- THERE IS AN OUTCOME of every call, for every input. That there is only one is proved where the promises stand.
+-- THERE IS AN OUTCOME of each of these calls, for every input. That there is only one is proved where the promises stand.
 --
 --   Buffers             == the contents of the three lent buffers: the schedule's, the low loop's, the high loop's
 --   DelaysAre t D       == the delay of every rule r of t is known, and is D r

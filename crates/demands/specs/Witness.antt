@@ -10,7 +10,7 @@
 --   analysis_p1         THE PERIOD of P1 is 7/1, with its loop and its schedule; some_p1: there is an outcome, and it is this; given_p1: as Demand2 says it
 --   refused_p7, refused_p9     the two lists that are refused; kept_p7: as Demand1 says it
 --   analysis_p3         the ends of P3 are 3/1 and 1000003/1, not exact
---   filling_p3          and filling the blank moves both to 7/1
+--   filling_p3          and filling the blank moves both inward, to those of P1
 --   rate_p1, rate_p3, filling_rate_p3     the same of the rate of transition 0; given_rate_p1: as Demand2 says it
 --   simulation_p1       the times of three occurrences of P1; times_p1: as Demand2 says them
 --   text_p3             what is printed for the file of P3; filling_text_p3: and with the blank filled
