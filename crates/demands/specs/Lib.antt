@@ -1,3 +1,13 @@
 pub mod Refused
 pub mod Filled
 pub mod Rates
+pub mod Timed
+pub mod Exists
+pub mod Outcomes
+pub mod Demand1
+pub mod Columns
+pub mod Demand2
+pub mod Demand3
+pub mod Unused
+pub mod Witness
+pub mod Wide
