@@ -6,6 +6,7 @@ pub mod Exists
 pub mod Outcomes
 pub mod Demand1
 pub mod Columns
+pub mod Exported
 pub mod Demand2
 pub mod Demand3
 pub mod Unused
