@@ -9,16 +9,16 @@
 --   GivenPeriod t D b o  == what an analysis hands back then: P/Q, the loop, the schedule, and nothing else
 --   given_period         THE PERIOD
 --   period_linear        it is the least with a linear timing function, and the schedule is one: the thesis's (2.4) to (2.6)
---   refused_iff          REFUSED EXACTLY WHEN; knot_refused, flat_refused: with which number, at which place; found_answered: and else answered
---   GivenRate t D v r, given_rate, rate_refused_iff      the same for a transition's rate; rate_knot_refused, unreached_refused, six_iff,
---                        reached_answered: with which number, and else answered
+--   refused_iff          REFUSED EXACTLY WHEN (with which number, at which place, and what an answer is: Refused)
+--   GivenRate t D v r, given_rate, rate_refused_iff      the same for a transition's rate; rate_knot_refused, six_iff: with which number (the others: Rates)
 --   SimulatedTimes t D N out, simulation_times           THE TIMES, and none earlier
 --   file_written_back, table_read_back                   BOTH WAYS OF A FILE
-use Rattle.std.specs.Prelude.{◌≡◌, refl, Bool, true, ◌⊎◌, ◌↔◌, List, ◌++◌, ℕ, ◌+◌, ◌*◌, ◌-◌, ◌≤◌, ◌<◌, length, get_or, take, drop}
-use Rattle.std.proofs.Common.{sym, ap, ◌∙◌, subst, inl, inr, ⊎_elim, arith, le-ltb}
+use Rattle.std.specs.Prelude.{◌≡◌, Bool, true, ◌⊎◌, ◌↔◌, List, ◌++◌, ℕ, ◌+◌, ◌*◌, ◌-◌, ◌≤◌, ◌<◌, length, get_or, take, drop}
+use Rattle.std.proofs.Common.{sym, ap, ◌∙◌, subst, inl, inr, ⊎_elim, arith}
+use Rattle.std.proofs.Math.Logic.{⊎_map}
 use Rattle.model.specs.Shape.{Shape}
 use Rattle.model.specs.Sums.{offsets}
-use Rattle.model.specs.Loop.{Loop, SomeLoop, NoLoop, Live}
+use Rattle.model.specs.Loop.{Loop, NoLoop, Live}
 use Rattle.model.specs.Knot.{Knot}
 use Rattle.model.specs.Ratio.{Lowest}
 use Rattle.model.specs.Period.{Period}
@@ -26,11 +26,11 @@ use Rattle.model.specs.Schedule.{LeastSchedule}
 use Rattle.model.specs.Reported.{Reported}
 use Rattle.model.specs.Filling.{Given, least_of, greatest_of}
 use Rattle.model.specs.Ends.{Measure, Range, RangeOf}
-use Rattle.model.specs.Rate.{SomeLoopTo, NoLoopTo, Rate}
+use Rattle.model.specs.Rate.{NoLoopTo, Rate}
 use Rattle.model.specs.Answer.{Answer}
 use Rattle.model.specs.Times.{AreTimes}
 use Rattle.model.specs.Thesis.{Linear, Timing}
-use Rattle.theory.specs.Knot.{knot_not_live, knot_or_live}
+use Rattle.theory.specs.Knot.{knot_or_live}
 use Rattle.theory.specs.Ends.{Steady, period_steady, given_exact, high_unique}
 use Rattle.theory.specs.Reported.{reported_unique}
 use Rattle.theory.specs.Same.{period_same, reported_same, schedule_same}
@@ -49,16 +49,16 @@ use Rattle.rulefile.specs.declared.FileRead.{FileRead}
 use Rattle.rulefile.specs.declared.Written.{Written}
 use Rattle.rates.specs.declared.Rated.{Rated}
 use Rattle.simulation.specs.declared.Simulated.{Simulated}
-use Rattle.engine.specs.Verdict.{Verdict, outside, knotted, flat, wide, found, Judges, never_wide_at, verdict_exists, verdict_unique}
 use Rattle.rulefile.specs.File.{read_of, written_as, Writes}
-use Rattle.period.specs.Promise.{Outcome, outcome, end_of, into, answered_analysis, judged_outcome, outcome_of, AnalysisOf}
+use Rattle.period.specs.Promise.{Outcome, outcome, end_of, into, answered_analysis, AnalysisOf}
 use Rattle.rates.specs.Rate.{RateVerdict, bad_field, no_name, knot_at, unreached, too_wide, rated, JudgesRate, rate_never_wide, rate_verdict_unique, refused_rate, rated_of, RateOf}
 use Rattle.simulation.specs.Simulation.{delays, Answered, SimulationOf}
 use Rattle.rulefile.specs.Accepted.{IsFile, accepted_is_file}
 use Rattle.rulefile.specs.RoundTrip.{accepted_iff, read_then_written, written_then_read}
 use Rattle.demands.specs.Timed.{timed_same}
 use Rattle.demands.specs.Exists.{Buffers, DelaysAre}
-use Rattle.demands.specs.Refused.{Room}
+use Rattle.demands.specs.Refused.{Room, knot_refused, flat_refused, refused_only}
+use Rattle.demands.specs.Rates.{unreached_refused}
 use Rattle.demands.specs.Outcomes.{analysis_answered, rate_answered, simulation_cases}
 
 -- ----------------------------------------------------------------------------------------------------------------------- with all delays given
@@ -150,52 +150,17 @@ knot_turnless S u k = record { at = u; loop = k.loop; is_loop = k.is_loop; no_tu
 turnless_not_live : (S : Shape) → LoopWithoutTurn S → ¬ (Live S)
 turnless_not_live S l live = omega (arith, live l.at l.loop l.is_loop, l.no_turn)
 
--- with room lent, the verdict decides
-roomy : (t : Table) (v : Verdict) (b : Buffers) → Room t b.schedule b.low b.high → outcome_of t.n v b.schedule b.low b.high ≡ judged_outcome v b.schedule b.low b.high
-roomy t (outside k) b r = refl
-roomy t (knotted u) b r = simp (le-ltb (length b.schedule) t.n r.0, le-ltb (length b.low) t.n r.1, le-ltb (length b.high) t.n r.2)
-roomy t flat b r = simp (le-ltb (length b.schedule) t.n r.0, le-ltb (length b.low) t.n r.1, le-ltb (length b.high) t.n r.2)
-roomy t wide b r = simp (le-ltb (length b.schedule) t.n r.0, le-ltb (length b.low) t.n r.1, le-ltb (length b.high) t.n r.2)
-roomy t (found a) b r = simp (le-ltb (length b.schedule) t.n r.0, le-ltb (length b.low) t.n r.1, le-ltb (length b.high) t.n r.2)
-
 module _ (t : Table) (w : Within t) (b : Buffers) (r : Room t b.schedule b.low b.high) (o : Outcome) (is : AnalysisOf t b.schedule b.low b.high o) where
-  -- the outcome is that of any verdict on the table
-  by_verdict : (v : Verdict) → Judges t v → o ≡ judged_outcome v b.schedule b.low b.high
-  by_verdict v j = is.result ∙ ap (λ z. outcome_of t.n z b.schedule b.low b.high) (verdict_unique t is.verdict v is.judged j) ∙ roomy t v b r
-
-  -- a loop has no turn: 5, at the lowest transition on such a loop
-  pub knot_refused : (u : ℕ) → Knot (shape_of t) u → o ≡ judged_outcome (knotted u) b.schedule b.low b.high
-  knot_refused u k = by_verdict (knotted u) (w, k)
-
-  -- no loop exists: 6
-  pub flat_refused : NoLoop (shape_of t) → o ≡ judged_outcome flat b.schedule b.low b.high
-  flat_refused none = by_verdict flat (w, (λ u rs l. absurd (none u rs l)), none)
-
-  -- else answered
-  pub found_answered : Live (shape_of t) → SomeLoop (shape_of t) → o.result.refusal ≡ 0
-  found_answered live some = at (verdict_exists t).0 (verdict_exists t).1
-    where
-      at : (v : Verdict) → Judges t v → o.result.refusal ≡ 0
-      at (outside k) j = absurd (within_not_bad t k w j)
-      at (knotted u) j = absurd (knot_not_live (shape_of t) u j.1 live)
-      at flat j = absurd (j.2 some.at some.loop some.is_loop)
-      at wide j = absurd (never_wide_at t w j.2.0 j.2.1 j.2.2)
-      at (found a) j = ap (λ (z : Outcome). z.result.refusal) (by_verdict (found a) j)
-
   -- REFUSED EXACTLY WHEN A LOOP HAS NO TURN OR NO LOOP EXISTS
   pub refused_iff : (0 < o.result.refusal) ↔ (LoopWithoutTurn (shape_of t) ⊎ NoLoop (shape_of t))
-  refused_iff = (λ l. only l is.verdict is.judged (by_verdict is.verdict is.judged), λ c. ⊎_elim turnless (λ none. let e = ap (λ (z : Outcome). z.result.refusal) (flat_refused none) in omega arith) c)
+  refused_iff = (
+    λ l. ⊎_map (λ k. knot_turnless (shape_of t) k.0 k.1) (λ none. none) (refused_only t w b.schedule b.low b.high r o is l),
+    λ c. ⊎_elim turnless (λ none. let e = ap (λ (z : Outcome). z.result.refusal) (flat_refused t w b.schedule b.low b.high r o is (λ u rs l. absurd (none u rs l)) none) in omega arith) c,
+  )
     where
-      only : 0 < o.result.refusal → (v : Verdict) → Judges t v → o ≡ judged_outcome v b.schedule b.low b.high → LoopWithoutTurn (shape_of t) ⊎ NoLoop (shape_of t)
-      only l (outside k) j e = absurd (within_not_bad t k w j)
-      only l (knotted u) j e = inl (knot_turnless (shape_of t) u j.1)
-      only l flat j e = inr j.2
-      only l wide j e = absurd (never_wide_at t w j.2.0 j.2.1 j.2.2)
-      only l (found a) j e = absurd (omega (arith, ap (λ (z : Outcome). z.result.refusal) e))
-
       turnless : LoopWithoutTurn (shape_of t) → 0 < o.result.refusal
       turnless c =
-          ⊎_elim (λ k. let e = ap (λ (z : Outcome). z.result.refusal) (knot_refused k.0 k.1) in omega arith)
+          ⊎_elim (λ k. let e = ap (λ (z : Outcome). z.result.refusal) (knot_refused t w b.schedule b.low b.high r o is k.0 k.1) in omega arith)
           (λ live. absurd (turnless_not_live (shape_of t) c live)) (knot_or_live (shape_of t) t.n (within_fits t w))
 
 -- ------------------------------------------------------------------------------------------------------------------------------------------ rates
@@ -239,22 +204,6 @@ module _ (t : Table) (w : Within t) (v : ℕ) (b : v < t.n) (r : Rated) (is : Ra
   pub rate_knot_refused : (u : ℕ) → Knot (shape_of t) u → r ≡ refused_rate 5 u
   rate_knot_refused u k = by_rate_verdict (knot_at u) (w, b, k)
 
-  -- every loop turns and none reaches the transition: 6
-  pub unreached_refused : Live (shape_of t) → NoLoopTo (shape_of t) v → r ≡ refused_rate 6 0
-  unreached_refused live none = by_rate_verdict unreached (w, b, live, none)
-
-  -- every loop turns and one reaches it: answered
-  pub reached_answered : Live (shape_of t) → SomeLoopTo (shape_of t) v → r.refusal ≡ 0
-  reached_answered live some = at is.verdict is.judged is.result
-    where
-      at : (x : RateVerdict) → JudgesRate t v x → r ≡ rated_of t.n x → r.refusal ≡ 0
-      at (bad_field k) j e = absurd (within_not_bad t k w j)
-      at no_name j e = absurd (omega (arith, j.1))
-      at (knot_at u) j e = absurd (knot_not_live (shape_of t) u j.2 live)
-      at unreached j e = absurd (j.3 some.at some.loop some.is_loop_to)
-      at too_wide j e = absurd (rate_never_wide t w v b j.3.0 j.3.1 j.3.2)
-      at (rated a) j e = ap (λ (z : Rated). z.refusal) e
-
   -- A RATE IS REFUSED EXACTLY WHEN A LOOP HAS NO TURN OR NO LOOP REACHES THE TRANSITION
   pub rate_refused_iff : (0 < r.refusal) ↔ (LoopWithoutTurn (shape_of t) ⊎ NoLoopTo (shape_of t) v)
   rate_refused_iff = (λ l. only l is.verdict is.judged is.result, λ c. ⊎_elim turnless unreachable c)
@@ -277,7 +226,7 @@ module _ (t : Table) (w : Within t) (v : ℕ) (b : v < t.n) (r : Rated) (is : Ra
 
       unreachable : NoLoopTo (shape_of t) v → 0 < r.refusal
       unreachable none =
-          ⊎_elim (λ k. refused_as 5 k.0 (omega arith) (rate_knot_refused k.0 k.1)) (λ live. refused_as 6 0 (omega arith) (unreached_refused live none))
+          ⊎_elim (λ k. refused_as 5 k.0 (omega arith) (rate_knot_refused k.0 k.1)) (λ live. refused_as 6 0 (omega arith) (unreached_refused t w v b r is live none))
           (knot_or_live (shape_of t) t.n (within_fits t w))
 
   -- 6 EXACTLY WHEN EVERY LOOP TURNS AND NONE REACHES THE TRANSITION
@@ -286,7 +235,7 @@ module _ (t : Table) (w : Within t) (v : ℕ) (b : v < t.n) (r : Rated) (is : Ra
     λ e. ⊎_elim (λ k. absurd (omega (arith, ap (λ (z : Rated). z.refusal) (rate_knot_refused k.0 k.1))))
         (λ live. (live, ⊎_elim (λ c. absurd (turnless_not_live (shape_of t) c live)) (λ none. none) (rate_refused_iff.0 (omega arith))))
         (knot_or_live (shape_of t) t.n (within_fits t w)),
-    λ h. ap (λ (z : Rated). z.refusal) (unreached_refused h.0 h.1),
+    λ h. ap (λ (z : Rated). z.refusal) (unreached_refused t w v b r is h.0 h.1),
   )
 
 -- ------------------------------------------------------------------------------------------------------------------------------------------ times

@@ -10,8 +10,8 @@
 --   rate_ends, rate_exact    the same of a rate
 --   Filled t t'          == t' is t with some blanks filled (Filled)
 --   EndsInward a b       == neither end of b lies outside those of a, and an exact a stays as it is (Filled); exact_kept: then b is a
---   Inward o o', analysis_inward        FILLING, between what two analyses hand back
---   InwardRate r r', rate_inward        between what two rates hand back
+--   OutcomesInward o o', analysis_inward        FILLING, between what two analyses hand back
+--   RatesInward r r', rate_inward        between what two rates hand back
 --   InwardText x x', text_inward        between what is printed for two files
 use Rattle.std.specs.Prelude.{◌≡◌, refl, Bool, true, ◌⊎◌, ◌↔◌, List, ℕ, ◌<◌}
 use Rattle.std.proofs.Common.{sym, ap, ◌∙◌, subst, true≢false, inl, inr, ⊎_elim, arith, le_refl}
@@ -81,7 +81,7 @@ exact_kept a b h e = same (h.2 e).0 (h.2 e).1 (h.2 e).2 (h.2 e).3 ((h.2 e).4 ∙
     same e f g h j i = record { low_p = e i; low_q = f i; high_p = g i; high_q = h i; exact = j i }
 
 -- what filling may do to what an analysis hands back: nothing to a refusal; and an answer stays one, whose ends move inward
-pub record Inward (o o' : Outcome) : Type 0 where
+pub record OutcomesInward (o o' : Outcome) : Type 0 where
   pub refused : 0 < o.result.refusal → o' ≡ o
   pub answered : o.result.refusal ≡ 0 → o'.result.refusal ≡ 0
   pub ends : EndsInward (ends_of o.result) (ends_of o'.result)
@@ -90,15 +90,15 @@ ends_same : (a : Range) → EndsInward a a
 ends_same a = (le_refl _, le_refl _, λ e. (refl, refl, refl, refl, e))
 
 -- what is the same moves nowhere
-outcome_same : (o o' : Outcome) → o' ≡ o → Inward o o'
+outcome_same : (o o' : Outcome) → o' ≡ o → OutcomesInward o o'
 outcome_same o o' e =
-    subst⁻¹ (Inward o) e (record { refused = λ l. refl; answered = λ z. z; ends = ends_same (ends_of o.result) })
+    subst⁻¹ (OutcomesInward o) e (record { refused = λ l. refl; answered = λ z. z; ends = ends_same (ends_of o.result) })
 
-answers_inward : (a a' : Answer) (b : Buffers) → EndsInward a.ends a'.ends → Inward (judged_outcome (found a) b.schedule b.low b.high) (judged_outcome (found a') b.schedule b.low b.high)
+answers_inward : (a a' : Answer) (b : Buffers) → EndsInward a.ends a'.ends → OutcomesInward (judged_outcome (found a) b.schedule b.low b.high) (judged_outcome (found a') b.schedule b.low b.high)
 answers_inward a a' b e = record { refused = λ l. absurd (omega arith); answered = λ z. refl; ends = e }
 
 module _ (n : ℕ) (b : Buffers) where
-  verdicts_inward : (v w : Verdict) → verdicts.Inward v w → Inward (outcome_of n v b.schedule b.low b.high) (outcome_of n w b.schedule b.low b.high)
+  verdicts_inward : (v w : Verdict) → verdicts.Inward v w → OutcomesInward (outcome_of n v b.schedule b.low b.high) (outcome_of n w b.schedule b.low b.high)
   verdicts_inward (outside k) w h = outcome_same _ _ (ap (λ z. outcome_of n z b.schedule b.low b.high) h)
   verdicts_inward (knotted u) w h = outcome_same _ _ (ap (λ z. outcome_of n z b.schedule b.low b.high) h)
   verdicts_inward flat w h = outcome_same _ _ (ap (λ z. outcome_of n z b.schedule b.low b.high) h)
@@ -110,27 +110,27 @@ module _ (n : ℕ) (b : Buffers) where
   verdicts_inward (found a) (found a') h =
       ⊎_elim
       (λ s. outcome_same _ _ (s (found a') refl ∙ sym (s (found a) refl)))
-      (λ s. subst⁻¹ (λ (z : Outcome). Inward z (outcome_of n (found a') b.schedule b.low b.high)) (s (found a)) (subst⁻¹ (Inward (judged_outcome (found a) b.schedule b.low b.high)) (s (found a')) (answers_inward a a' b h)))
+      (λ s. subst⁻¹ (λ (z : Outcome). OutcomesInward z (outcome_of n (found a') b.schedule b.low b.high)) (s (found a)) (subst⁻¹ (OutcomesInward (judged_outcome (found a) b.schedule b.low b.high)) (s (found a')) (answers_inward a a' b h)))
       (short_or_roomy n b)
 
 -- FILLING ANY BLANK REFUSES THE SAME LISTS, MOVES NO END OUTWARD AND LEAVES AN EXACT PERIOD AS IT IS: between what two analyses hand back, with the same buffers
 -- lent
-pub analysis_inward : (t t' : Table) → Filled t t' → (b : Buffers) (o o' : Outcome) → AnalysisOf t b.schedule b.low b.high o → AnalysisOf t' b.schedule b.low b.high o' → Inward o o'
+pub analysis_inward : (t t' : Table) → Filled t t' → (b : Buffers) (o o' : Outcome) → AnalysisOf t b.schedule b.low b.high o → AnalysisOf t' b.schedule b.low b.high o' → OutcomesInward o o'
 analysis_inward t t' f b o o' x y =
     let h = verdicts_inward t.n b x.verdict y.verdict (verdicts.filled_inward t t' f x.verdict y.verdict x.judged y.judged) in
     let e : o' ≡ outcome_of t.n y.verdict b.schedule b.low b.high = y.result ∙ ap (λ z. outcome_of z y.verdict b.schedule b.low b.high) f.n_same in
-    subst⁻¹ (λ (z : Outcome). Inward z o') x.result (subst⁻¹ (Inward (outcome_of t.n x.verdict b.schedule b.low b.high)) e h)
+    subst⁻¹ (λ (z : Outcome). OutcomesInward z o') x.result (subst⁻¹ (OutcomesInward (outcome_of t.n x.verdict b.schedule b.low b.high)) e h)
 
 -- the same of a rate
-pub record InwardRate (r r' : Rated) : Type 0 where
+pub record RatesInward (r r' : Rated) : Type 0 where
   pub refused : 0 < r.refusal → r' ≡ r
   pub answered : r.refusal ≡ 0 → r'.refusal ≡ 0
   pub ends : EndsInward (rate_ends_of r) (rate_ends_of r')
 
-rate_same : (r r' : Rated) → r' ≡ r → InwardRate r r'
-rate_same r r' e = subst⁻¹ (InwardRate r) e (record { refused = λ l. refl; answered = λ z. z; ends = ends_same (rate_ends_of r) })
+rate_same : (r r' : Rated) → r' ≡ r → RatesInward r r'
+rate_same r r' e = subst⁻¹ (RatesInward r) e (record { refused = λ l. refl; answered = λ z. z; ends = ends_same (rate_ends_of r) })
 
-rates_inward : (n : ℕ) (x y : RateVerdict) → rate_verdicts.InwardRate x y → InwardRate (rated_of n x) (rated_of n y)
+rates_inward : (n : ℕ) (x y : RateVerdict) → rate_verdicts.InwardRate x y → RatesInward (rated_of n x) (rated_of n y)
 rates_inward n (bad_field k) y h = rate_same _ _ (ap (rated_of n) h)
 rates_inward n no_name y h = rate_same _ _ (ap (rated_of n) h)
 rates_inward n (knot_at u) y h = rate_same _ _ (ap (rated_of n) h)
@@ -144,11 +144,11 @@ rates_inward n (rated a) too_wide h = absurd h
 rates_inward n (rated a) (rated a') h = record { refused = λ l. absurd (omega arith); answered = λ z. refl; ends = h }
 
 -- FILLING, BETWEEN WHAT TWO RATES HAND BACK
-pub rate_inward : (t t' : Table) → Filled t t' → (v : ℕ) (r r' : Rated) → RateOf t v r → RateOf t' v r' → InwardRate r r'
+pub rate_inward : (t t' : Table) → Filled t t' → (v : ℕ) (r r' : Rated) → RateOf t v r → RateOf t' v r' → RatesInward r r'
 rate_inward t t' f v r r' x y =
     let h = rates_inward t.n x.verdict y.verdict (rate_verdicts.rate_filled_inward t t' f v x.verdict y.verdict x.judged y.judged) in
     let e : r' ≡ rated_of t.n y.verdict = y.result ∙ ap (λ z. rated_of z y.verdict) f.n_same in
-    subst⁻¹ (λ (z : Rated). InwardRate z r') x.result (subst⁻¹ (InwardRate (rated_of t.n x.verdict)) e h)
+    subst⁻¹ (λ (z : Rated). RatesInward z r') x.result (subst⁻¹ (RatesInward (rated_of t.n x.verdict)) e h)
 
 -- ------------------------------------------------------------------------------------------------------------------------------ what is printed
 

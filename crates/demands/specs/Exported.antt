@@ -10,12 +10,12 @@
 --   two bids                bids_from_exists           bids_from_unique                    bids_from_refused
 --   reading into columns    an equation (read_into)                                         columns_refused (Columns)
 --   a number                an equation (number_in)                                         number_in_refused
-use Rattle.std.specs.Prelude.{◌≡◌, refl, List, ◌++◌, ℕ, ◌≤◌, ◌<◌, ltb, length, drop}
-use Rattle.std.proofs.Common.{sym, ap, ◌∙◌, subst, arith}
+use Rattle.std.specs.Prelude.{◌≡◌, refl, List, ◌++◌, ℕ, ◌<◌, length, drop}
+use Rattle.std.proofs.Common.{ap, ◌∙◌, subst, arith}
 use Rattle.std.proofs.Math.Path.{subst⁻¹}
 use Rattle.std.proofs.Math.Logic.{by_cases}
 use Rattle.std.proofs.Math.Decide.{dec_lt}
-use Rattle.sevens.specs.Sevens.{Answer, number_of, refused}
+use Rattle.sevens.specs.Sevens.{number_of, refused}
 use Rattle.table.specs.declared.Table.{Table}
 use Rattle.rates.specs.declared.Rated.{Rated}
 use Rattle.rulefile.specs.declared.Written.{Written}
@@ -30,7 +30,6 @@ use Rattle.cperiod.specs.declared.PeriodAnalysis.{PeriodAnalysis}
 use Rattle.cperiod.specs.declared.PeriodRate.{PeriodRate}
 use Rattle.cperiod.specs.declared.PeriodCount.{PeriodCount}
 use Rattle.cperiod.specs.declared.PeriodStatus.{PeriodStatus}
-use Rattle.cperiod.specs.declared.PeriodNumber.{PeriodNumber}
 use Rattle.cperiod.specs.declared.PeriodBids.{PeriodBids}
 use Rattle.cperiod.specs.Promise.{AskedOf, flat_analysis_of, flat_rate_of, flat_count, flat_status, unsimulated, AnalysisFrom, RateFrom, WritingFrom, SimulationFrom, ReportFrom, flat_number, number_in}
 use Rattle.cperiod.specs.Bids.{flat_bids, BidsFrom, bids_made}

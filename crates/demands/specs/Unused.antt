@@ -38,11 +38,11 @@ use Rattle.demands.specs.Exists.{Buffers}
 use Rattle.demands.specs.Filled.{FilledDelay, Filled, bad_filled, within_filled}
 
 -- past the rules in use there is none
-past : (m : ℕ) (xs : List Rule) (r : ℕ) → m ≤ r → get_or (take m xs) r unused_rule ≡ unused_rule
-past zero xs r b = refl
-past (suc m) [] r b = refl
-past (suc m) (x ∷ xs) zero b = absurd (omega arith)
-past (suc m) (x ∷ xs) (suc r) b = past m xs r (omega arith)
+past_used : (m : ℕ) (xs : List Rule) (r : ℕ) → m ≤ r → get_or (take m xs) r unused_rule ≡ unused_rule
+past_used zero xs r b = refl
+past_used (suc m) [] r b = refl
+past_used (suc m) (x ∷ xs) zero b = absurd (omega arith)
+past_used (suc m) (x ∷ xs) (suc r) b = past_used m xs r (omega arith)
 
 delay_unfilled : (d e : Delay) → e ≡ d → FilledDelay d e
 delay_unfilled d e h = subst (FilledDelay d) (sym h) (kept d)
@@ -73,7 +73,7 @@ module _ (t u : Table) (s : SameRules t u) where
   used_at r =
       by_cases (dec_lt r t.m)
       (λ b. used_rule t r b ∙ sym (s.same_rule r b) ∙ sym (used_rule u r (omega (arith, s.same_m))))
-      (λ b. past t.m t.rules r (omega arith) ∙ sym (past u.m u.rules r (omega (arith, s.same_m))))
+      (λ b. past_used t.m t.rules r (omega arith) ∙ sym (past_used u.m u.rules r (omega (arith, s.same_m))))
 
   shape_same : shape_of t ≡ shape_of u
   shape_same =

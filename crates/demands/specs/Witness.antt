@@ -60,8 +60,9 @@ use Rattle.demands.specs.Exists.{Buffers, buffers, DelaysAre, analysis_exists}
 use Rattle.demands.specs.Filled.{FilledRule, Filled, shape_filled}
 use Rattle.demands.specs.Refused.{Room}
 use Rattle.demands.specs.Demand1.{analysis_refused}
-use Rattle.demands.specs.Demand2.{exact_analysis, GivenPeriod, given_period, knot_refused, flat_refused, exact_rate, GivenRate, given_rate, SimulatedTimes, simulation_times, file_written_back, table_read_back}
-use Rattle.demands.specs.Demand3.{Inward, analysis_inward, InwardRate, rate_inward, InwardText, text_inward}
+use Rattle.demands.specs.Refused.{knot_refused, flat_refused}
+use Rattle.demands.specs.Demand2.{exact_analysis, GivenPeriod, given_period, exact_rate, GivenRate, given_rate, SimulatedTimes, simulation_times, file_written_back, table_read_back}
+use Rattle.demands.specs.Demand3.{OutcomesInward, analysis_inward, RatesInward, rate_inward, InwardText, text_inward}
 use Rattle.demands.specs.Unused.{analysis_unused}
 
 -- ------------------------------------------------------------------------------------------------------------------------------------ the blocks
@@ -176,13 +177,13 @@ p1_judged = (p1_within, p1_live, p1_answers, never_wide_at P1 p1_within answer_1
 -- --------------------------------------------------------------------------------------------------------------------------------- the theorems
 
 -- an analysis of a table on which a verdict is known, with these buffers lent
-by_verdict : (t : Table) (v : Verdict) → Judges t v → (o : Outcome) → AnalysisOf t lent.schedule lent.low lent.high o → o ≡ outcome_of t.n v lent.schedule lent.low lent.high
-by_verdict t v j o is = is.result ∙ ap (λ z. outcome_of t.n z lent.schedule lent.low lent.high) (verdict_unique t is.verdict v is.judged j)
+lent_verdict : (t : Table) (v : Verdict) → Judges t v → (o : Outcome) → AnalysisOf t lent.schedule lent.low lent.high o → o ≡ outcome_of t.n v lent.schedule lent.low lent.high
+lent_verdict t v j o is = is.result ∙ ap (λ z. outcome_of t.n z lent.schedule lent.low lent.high) (verdict_unique t is.verdict v is.judged j)
 
 -- THE PERIOD OF P1, its loop in two buffers and its schedule in the third; the third places stay
 pub analysis_p1 : (o : Outcome) → AnalysisOf P1 lent.schedule lent.low lent.high o
     → o ≡ outcome (exact_analysis 7 1 2) (0 ∷ 3 ∷ 9 ∷ []) (0 ∷ 1 ∷ 9 ∷ []) (0 ∷ 1 ∷ 9 ∷ [])
-analysis_p1 o is = by_verdict P1 (found answer_1) p1_judged o is
+analysis_p1 o is = lent_verdict P1 (found answer_1) p1_judged o is
 
 -- there is an outcome, and it is this one
 pub some_p1 : (o : Outcome) × AnalysisOf P1 lent.schedule lent.low lent.high o × (o ≡ outcome (exact_analysis 7 1 2) (0 ∷ 3 ∷ 9 ∷ []) (0 ∷ 1 ∷ 9 ∷ []) (0 ∷ 1 ∷ 9 ∷ []))
@@ -236,10 +237,10 @@ p3_judged = (p3_within, p3_live, p3_answers, never_wide_at P3 p3_within answer_3
 
 pub analysis_p3 : (o : Outcome) → AnalysisOf P3 lent.schedule lent.low lent.high o
     → o ≡ outcome (record { refusal = 0; place = 0; exact = false; low = end_of 3 1 2; high = end_of 1000003 1 2 }) (0 ∷ 3 ∷ 9 ∷ []) (0 ∷ 1 ∷ 9 ∷ []) (0 ∷ 1 ∷ 9 ∷ [])
-analysis_p3 o is = by_verdict P3 (found answer_3) p3_judged o is
+analysis_p3 o is = lent_verdict P3 (found answer_3) p3_judged o is
 
 -- FILLING ITS BLANK
-pub filling_p3 : (o o' : Outcome) → AnalysisOf P3 lent.schedule lent.low lent.high o → AnalysisOf P1 lent.schedule lent.low lent.high o' → Inward o o'
+pub filling_p3 : (o o' : Outcome) → AnalysisOf P3 lent.schedule lent.low lent.high o → AnalysisOf P1 lent.schedule lent.low lent.high o' → OutcomesInward o o'
 filling_p3 o o' x y = analysis_inward P3 P1 p3_filled lent o o' x y
 
 -- A LOOP WITHOUT A TURN
@@ -257,7 +258,7 @@ p7_room : Room P7 lent.schedule lent.low lent.high
 p7_room = omega arith
 
 pub refused_p7 : (o : Outcome) → AnalysisOf P7 lent.schedule lent.low lent.high o → o ≡ outcome (refused_analysis 5 0) lent.schedule lent.low lent.high
-refused_p7 o is = knot_refused P7 p7_within lent p7_room o is 0 p7_knot
+refused_p7 o is = knot_refused P7 p7_within lent.schedule lent.low lent.high p7_room o is 0 p7_knot
 
 pub kept_p7 : (o : Outcome) → AnalysisOf P7 lent.schedule lent.low lent.high o → o ≡ outcome (refused_analysis o.result.refusal o.result.place) lent.schedule lent.low lent.high
 kept_p7 o is = let e = ap (λ (z : Outcome). z.result.refusal) (refused_p7 o is) in analysis_refused P7 lent o is (omega arith)
@@ -274,7 +275,7 @@ p9_room : Room P9 lent.schedule lent.low lent.high
 p9_room = omega arith
 
 pub refused_p9 : (o : Outcome) → AnalysisOf P9 lent.schedule lent.low lent.high o → o ≡ outcome (refused_analysis 6 0) lent.schedule lent.low lent.high
-refused_p9 o is = flat_refused P9 p9_within lent p9_room o is p9_none
+refused_p9 o is = flat_refused P9 p9_within lent.schedule lent.low lent.high p9_room o is (λ u rs l. absurd (p9_none u rs l)) p9_none
 
 -- ------------------------------------------------------------------------------------------------------------------------------------ the rates
 
@@ -334,7 +335,7 @@ p3_rates =
 pub rate_p3 : (r : Rated) → RateOf P3 0 r → r ≡ answered_rate range_3
 rate_p3 r is = by_rate_verdict P3 0 (rated range_3) (p3_within, omega arith, p3_live, p3_rates, rate_never_wide P3 p3_within 0 (omega arith) range_3 p3_rates) r is
 
-pub filling_rate_p3 : (r r' : Rated) → RateOf P3 0 r → RateOf P1 0 r' → InwardRate r r'
+pub filling_rate_p3 : (r r' : Rated) → RateOf P3 0 r → RateOf P1 0 r' → RatesInward r r'
 filling_rate_p3 r r' x y = rate_inward P3 P1 p3_filled 0 r r' x y
 
 -- ------------------------------------------------------------------------------------------------------------------------------------ the times
