@@ -64,15 +64,15 @@ PORTED = """
 add-a add-at add-done add-r add-times add-wide alike-all alike-spec all-any all-append all-join andThen answerOf any-code at-1 at-8 at-once
 at-raw before-above bitOf blank-none bytes-drop bytes-rest bytesOf choiceOf chosen-of chosen-on clear-step code-is code-read codeIn codeOf
 cons-same copied-next count-head count-turn counts-all endOf entered-of filled-next filled-none first-to found-here found-none from-low
-going-end going-on going-start going-step high-fits high-is high-same hit-other hit-same in-order in-row is-held is-loop known-start known-
-step laid-next last-fits leave-spec line-refused low-fits low-ok low-same made-found main-spec more-stays mul-left mul-most mul-next mul-
-wide nOf near-by near-none no-name none-here none-left not-last not-three numAt number-cut number-is numberAt numberIn numberOf offsetOf
-offsets-are one-at-most order-same pair-same pass-spec pass-up picked-first picked-none place-of places-of plain-walk put-all put-next put-
-one put-rest put-spec putOf puts-none puts-then puts-whole range-same range-unique raw-at reach-here read-all read-one read-same read-short
-read-spec readOf release-spec roomFor root-below rows-end same-answer same-codes same-length set-here shapeOf shortOf so-far source-first
-source-is sourceOf start-spec startOf sum-same tableOf taken-next taken-none target-is targetOf then-next then-same to-below to-high told-
-none too-wide total-left turn-spec two-fields v-low value-low value-same waiting-none walk-first walk-loop walk-of walk-split walked-loop
-walked-none walking-on walking-start write-again write-spec written-low is-one
+going-end going-on going-start going-step high-fits high-is high-same hit-other hit-same in-order in-row is-held is-loop known-start
+known-step laid-next last-fits leave-spec line-refused low-fits low-ok low-same made-found main-spec more-stays mul-left mul-most mul-next
+mul-wide nOf near-by near-none no-name none-here none-left not-last not-three numAt number-cut number-is numberAt numberIn numberOf offsetOf
+offsets-are one-at-most order-same pair-same pass-spec pass-up picked-first picked-none place-of places-of plain-walk put-all put-next
+put-one put-rest put-spec putOf puts-none puts-then puts-whole range-same range-unique raw-at reach-here read-all read-one read-same
+read-short read-spec readOf release-spec roomFor root-below rows-end same-answer same-codes same-length set-here shapeOf shortOf so-far
+source-first source-is sourceOf start-spec startOf sum-same tableOf taken-next taken-none target-is targetOf then-next then-same to-below
+to-high told-none too-wide total-left turn-spec two-fields v-low value-low value-same waiting-none walk-first walk-loop walk-of walk-split
+walked-loop walked-none walking-on walking-start write-again write-spec written-low is-one
 """.split()
 
 

@@ -15,7 +15,7 @@
 --   better               better_exists                                better_unique
 --   report               text_exists                                  text_unique
 --
--- Of the calls that C has only the reading into columns is spoken of (Columns): crate cperiod is a static library, on which no crate can be built.
+-- The calls that C has: Columns, for the reading into columns, and Exported, for the others.
 --
 -- A REFUSAL, a number above 0, HANDS BACK NUMBER AND PLACE ALONE, AND EVERY LENT BUFFER IS AS IT WAS:
 --

@@ -1,5 +1,5 @@
--- NONE OF THE DEMANDS IS EMPTY: theorems of Demand1 to Demand3 and Unused, applied to blocks worked by hand (worked/Blocks). A hypothesis that no table meets is
--- refused here.
+-- THAT THE DEMANDS ARE NOT EMPTY: of Demand1 to Demand3 and Unused the theorems named below are applied to blocks worked by hand (worked/Blocks). A hypothesis of
+-- theirs that no table meets would be refused here.
 --
 --   P1                  0>1/0/3, 1>0/1/4: all delays given
 --   P3                  0>1/0/3, 1>0/1/?: P1 with a blank; p3_filled: filled with 4 it is P1
