@@ -55,7 +55,7 @@ use Rattle.rates.specs.Rate.{RateVerdict, bad_field, no_name, knot_at, unreached
 use Rattle.simulation.specs.Simulation.{delays, Answered, SimulationOf}
 use Rattle.rulefile.specs.Accepted.{IsFile, accepted_is_file}
 use Rattle.rulefile.specs.RoundTrip.{accepted_iff, read_then_written, written_then_read}
-use Rattle.demands.specs.Timed.{timed_same}
+use Rattle.simulation.specs.Blanks.{timed_same}
 use Rattle.demands.specs.Exists.{Buffers, DelaysAre}
 use Rattle.demands.specs.Refused.{Room, knot_refused, flat_refused, refused_only}
 use Rattle.demands.specs.Rates.{unreached_refused}

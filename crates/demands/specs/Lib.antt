@@ -11,4 +11,3 @@ pub mod Demand2
 pub mod Demand3
 pub mod Unused
 pub mod Witness
-pub mod Wide

@@ -1,8 +1,6 @@
--- TIMES OF OCCURRENCES, beyond those of theory/Times: there are such times where every loop turns, they are the earliest in fractions too, and they ask for the
--- delays of rules alone.
+-- TIMES OF OCCURRENCES, beyond those of theory/Times: there are such times where every loop turns, and they are the earliest in fractions too.
 --
 --   times_least_over    no timing function is earlier anywhere, in fractions over one denominator
---   timed_same          delays that agree on the rules have the same times
 --   Largest S i v f x   == x is the largest f r over the rules r that act on occurrence i of v, and 0 if none acts
 --   largest_exists      there is one; largest_same: it asks for the values at these rules alone
 --   times_exist         where every loop turns there are times
@@ -15,7 +13,7 @@ use Rattle.std.proofs.Math.Nat.{div-eq_of_lt-le, mul-add-mod_self_right}
 use Rattle.std.proofs.Math.Decide.{ℕ_discrete, dec_le, dec_lt}
 use Rattle.model.specs.Shape.{Shape, Fits}
 use Rattle.model.specs.Loop.{Live}
-use Rattle.model.specs.Times.{Acts, asked, Cause, IsTime, AreTimes, Timed}
+use Rattle.model.specs.Times.{Acts, asked, IsTime, AreTimes, Timed}
 use Rattle.model.specs.Thesis.{Timing}
 use Rattle.theory.specs.Rank.{ZeroRanks, live_ranks}
 use Rattle.theory.specs.Times.{times_least}
@@ -34,22 +32,6 @@ times_scaled S D N n q T are i v a b =
 pub times_least_over : (S : Shape) (D : ℕ → ℕ) (N n : ℕ) → Fits S n → Live S → (q : ℕ) (T t : ℕ → ℕ → ℕ) → AreTimes S D N n T → Timing S (λ r. q * D r) N n t
     → (i v : ℕ) → i < N → v < n → q * T i v ≤ t i v
 times_least_over S D N n fits live q T t are timing = times_least S (λ r. q * D r) N n fits live (λ i v. q * T i v) t (times_scaled S D N n q T are) timing
-
--- delays that agree on the rules have the same times
-module _ (S : Shape) (D E : ℕ → ℕ) (same : (r : ℕ) → r < S.rules → D r ≡ E r) where
-  cause_same : (T : ℕ → ℕ → ℕ) (i v : ℕ) → Cause S D T i v → Cause S E T i v
-  cause_same T i v c = record { rule = c.rule; acts = c.acts; exact = omega (arith, c.exact, same c.rule c.acts.is_rule) }
-
-  time_same : (T : ℕ → ℕ → ℕ) (i v : ℕ) → IsTime S D T i v → IsTime S E T i v
-  time_same T i v x =
-      record {
-        late_enough = λ r h. omega (arith, x.late_enough r h, same r h.is_rule);
-        no_later = ⊎_elim inl (λ c. inr (cause_same T i v c)) x.no_later;
-      }
-
-  pub timed_same : (N n : ℕ) (out₀ out : List ℕ) → Timed S D N n out₀ out → Timed S E N n out₀ out
-  timed_same N n out₀ out x =
-      record { T = x.T; times = λ i v a b. time_same x.T i v (x.times i v a b); size = x.size; rows = x.rows; rest = x.rest }
 
 -- ------------------------------------------------------------------------------------------------------------------------ the largest of some values
 

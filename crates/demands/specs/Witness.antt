@@ -129,39 +129,26 @@ p1_known (suc (suc r)) b = absurd (omega arith)
 shape_by : (S T : Shape) → S.rules ≡ T.rules → ((r : ℕ) → S.source r ≡ T.source r) → ((r : ℕ) → S.target r ≡ T.target r) → ((r : ℕ) → S.offset r ≡ T.offset r) → S ≡ T
 shape_by S T e f g h i = record { rules = e i; source = fun_ext f i; target = fun_ext g i; offset = fun_ext h i }
 
+-- functions that agree at 0, at 1 and further on
+by_two : (f g : ℕ → ℕ) → f 0 ≡ g 0 → f 1 ≡ g 1 → ((r : ℕ) → f (suc (suc r)) ≡ g (suc (suc r))) → (r : ℕ) → f r ≡ g r
+by_two f g a b h zero = a
+by_two f g a b h (suc zero) = b
+by_two f g a b h (suc (suc r)) = h r
+
 ranges_by : (K L : Ranges) → ((r : ℕ) → K.least r ≡ L.least r) → ((r : ℕ) → K.greatest r ≡ L.greatest r) → K ≡ L
 ranges_by K L f g i = record { least = fun_ext f i; greatest = fun_ext g i }
 
 p1_shape : laps.shape_of lap_1.rules ≡ shape_of P1
-p1_shape = shape_by (laps.shape_of lap_1.rules) (shape_of P1) refl source target offset
-  where
-    source : (r : ℕ) → (laps.shape_of lap_1.rules).source r ≡ (shape_of P1).source r
-    source zero = refl
-    source (suc zero) = refl
-    source (suc (suc r)) = refl
-
-    target : (r : ℕ) → (laps.shape_of lap_1.rules).target r ≡ (shape_of P1).target r
-    target zero = refl
-    target (suc zero) = refl
-    target (suc (suc r)) = refl
-
-    offset : (r : ℕ) → (laps.shape_of lap_1.rules).offset r ≡ (shape_of P1).offset r
-    offset zero = refl
-    offset (suc zero) = refl
-    offset (suc (suc r)) = refl
+p1_shape =
+    let S = laps.shape_of lap_1.rules in
+    let T = shape_of P1 in
+    shape_by S T refl (by_two S.source T.source refl refl (λ r. refl)) (by_two S.target T.target refl refl (λ r. refl)) (by_two S.offset T.offset refl refl (λ r. refl))
 
 p1_ranges : laps.ranges_of lap_1.rules ≡ ranges_of P1
-p1_ranges = ranges_by (laps.ranges_of lap_1.rules) (ranges_of P1) least greatest
-  where
-    least : (r : ℕ) → (laps.ranges_of lap_1.rules).least r ≡ (ranges_of P1).least r
-    least zero = refl
-    least (suc zero) = refl
-    least (suc (suc r)) = refl
-
-    greatest : (r : ℕ) → (laps.ranges_of lap_1.rules).greatest r ≡ (ranges_of P1).greatest r
-    greatest zero = refl
-    greatest (suc zero) = refl
-    greatest (suc (suc r)) = refl
+p1_ranges =
+    let K = laps.ranges_of lap_1.rules in
+    let L = ranges_of P1 in
+    ranges_by K L (by_two K.least L.least refl refl (λ r. refl)) (by_two K.greatest L.greatest refl refl (λ r. refl))
 
 abbrev pub answer_1 : Answer
 answer_1 = record { ends = record { low_p = 7; low_q = 1; high_p = 7; high_q = 1; exact = true }; low_loop = 0 ∷ 1 ∷ []; high_loop = 0 ∷ 1 ∷ []; schedule = 0 ∷ 3 ∷ [] }
@@ -197,35 +184,16 @@ abbrev pub answer_3 : Answer
 answer_3 = record { ends = record { low_p = 3; low_q = 1; high_p = 1000003; high_q = 1; exact = false }; low_loop = 0 ∷ 1 ∷ []; high_loop = 0 ∷ 1 ∷ []; schedule = 0 ∷ 3 ∷ [] }
 
 p3_shape : laps.shape_of lap_3.rules ≡ shape_of P3
-p3_shape = shape_by (laps.shape_of lap_3.rules) (shape_of P3) refl source target offset
-  where
-    source : (r : ℕ) → (laps.shape_of lap_3.rules).source r ≡ (shape_of P3).source r
-    source zero = refl
-    source (suc zero) = refl
-    source (suc (suc r)) = refl
-
-    target : (r : ℕ) → (laps.shape_of lap_3.rules).target r ≡ (shape_of P3).target r
-    target zero = refl
-    target (suc zero) = refl
-    target (suc (suc r)) = refl
-
-    offset : (r : ℕ) → (laps.shape_of lap_3.rules).offset r ≡ (shape_of P3).offset r
-    offset zero = refl
-    offset (suc zero) = refl
-    offset (suc (suc r)) = refl
+p3_shape =
+    let S = laps.shape_of lap_3.rules in
+    let T = shape_of P3 in
+    shape_by S T refl (by_two S.source T.source refl refl (λ r. refl)) (by_two S.target T.target refl refl (λ r. refl)) (by_two S.offset T.offset refl refl (λ r. refl))
 
 p3_ranges : laps.ranges_of lap_3.rules ≡ ranges_of P3
-p3_ranges = ranges_by (laps.ranges_of lap_3.rules) (ranges_of P3) least greatest
-  where
-    least : (r : ℕ) → (laps.ranges_of lap_3.rules).least r ≡ (ranges_of P3).least r
-    least zero = refl
-    least (suc zero) = refl
-    least (suc (suc r)) = refl
-
-    greatest : (r : ℕ) → (laps.ranges_of lap_3.rules).greatest r ≡ (ranges_of P3).greatest r
-    greatest zero = refl
-    greatest (suc zero) = refl
-    greatest (suc (suc r)) = refl
+p3_ranges =
+    let K = laps.ranges_of lap_3.rules in
+    let L = ranges_of P3 in
+    ranges_by K L (by_two K.least L.least refl refl (λ r. refl)) (by_two K.greatest L.greatest refl refl (λ r. refl))
 
 pub p3_answers : Answers (shape_of P3) (ranges_of P3) 2 answer_3
 p3_answers =

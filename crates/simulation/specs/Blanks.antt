@@ -68,7 +68,7 @@ module _ (S : Shape) (D E : ℕ → ℕ) (same : (r : ℕ) → r < S.rules → D
         no_later = ⊎_elim inl (λ c. inr (cause_same T i v c)) x.no_later;
       }
 
-  timed_same : (N n : ℕ) (out₀ out : List ℕ) → Timed S D N n out₀ out → Timed S E N n out₀ out
+  pub timed_same : (N n : ℕ) (out₀ out : List ℕ) → Timed S D N n out₀ out → Timed S E N n out₀ out
   timed_same N n out₀ out x =
       record { T = x.T; times = λ i v a b. time_same x.T i v (x.times i v a b); size = x.size; rows = x.rows; rest = x.rest }
 

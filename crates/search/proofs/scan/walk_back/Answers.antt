@@ -19,84 +19,36 @@ returns-then-code-eq0 c =
     c.requires.fresh.above (omega arith)
 
 pub offset_bounds-delay-r : goal.offset_bounds-delay-r
-offset_bounds-delay-r c =
-    let turn-here = turn (shape c.args.source.now c.args.target.now c.args.offset.now c.args.m) (delay_at c.args.delay.now) c.args.n c.args.par.now
-    (ready c.args.source.now c.args.target.now c.args.offset.now c.args.delay.now c.args.par.now c.args.m c.args.n c.requires.limits)
-    c.args.from c.args.number c.args.stamp.now c.args.delays.now c.args.offsets.now c.requires.fresh c.loop-stamp.stamp c.loop-stamp.delays c.loop-stamp.offsets c.loop-stamp.v c.loop-stamp.a c.loop-stamp.e
-    c.wide-code.result c.loop-stamp.invariant c.loop-stamp-test.true c.wide-code.ensures (omega arith) in
-    omega (arith, turn-here.is_rule)
+offset_bounds-delay-r c = omega (arith, (turn _ _ _ _ (ready _ _ _ _ _ _ _ c.requires.limits) _ _ _ _ _ c.requires.fresh _ _ _ _ _ _ _ c.loop-stamp.invariant c.loop-stamp-test.true c.wide-code.ensures (omega arith)).is_rule)
 
 pub bounds-delay-r : goal.bounds-delay-r
-bounds-delay-r c =
-    let turn-here = turn (shape c.args.source.now c.args.target.now c.args.offset.now c.args.m) (delay_at c.args.delay.now) c.args.n c.args.par.now
-    (ready c.args.source.now c.args.target.now c.args.offset.now c.args.delay.now c.args.par.now c.args.m c.args.n c.requires.limits)
-    c.args.from c.args.number c.args.stamp.now c.args.delays.now c.args.offsets.now c.requires.fresh c.loop-stamp.stamp c.loop-stamp.delays c.loop-stamp.offsets c.loop-stamp.v c.loop-stamp.a c.loop-stamp.e
-    c.wide-code.result c.loop-stamp.invariant c.loop-stamp-test.true c.wide-code.ensures (omega arith) in
-    omega (arith, turn-here.is_rule)
+bounds-delay-r c = omega (arith, (turn _ _ _ _ (ready _ _ _ _ _ _ _ c.requires.limits) _ _ _ _ _ c.requires.fresh _ _ _ _ _ _ _ c.loop-stamp.invariant c.loop-stamp-test.true c.wide-code.ensures (omega arith)).is_rule)
 
 pub overflow_add-a : goal.overflow_add-a
-overflow_add-a c =
-    let turn-here = turn (shape c.args.source.now c.args.target.now c.args.offset.now c.args.m) (delay_at c.args.delay.now) c.args.n c.args.par.now
-    (ready c.args.source.now c.args.target.now c.args.offset.now c.args.delay.now c.args.par.now c.args.m c.args.n c.requires.limits)
-    c.args.from c.args.number c.args.stamp.now c.args.delays.now c.args.offsets.now c.requires.fresh c.loop-stamp.stamp c.loop-stamp.delays c.loop-stamp.offsets c.loop-stamp.v c.loop-stamp.a c.loop-stamp.e
-    c.wide-code.result c.loop-stamp.invariant c.loop-stamp-test.true c.wide-code.ensures (omega arith) in
-    omega (arith, turn-here.delay_fits)
+overflow_add-a c = omega (arith, (turn _ _ _ _ (ready _ _ _ _ _ _ _ c.requires.limits) _ _ _ _ _ c.requires.fresh _ _ _ _ _ _ _ c.loop-stamp.invariant c.loop-stamp-test.true c.wide-code.ensures (omega arith)).delay_fits)
 
 pub offset_bounds-offset-r : goal.offset_bounds-offset-r
-offset_bounds-offset-r c =
-    let turn-here = turn (shape c.args.source.now c.args.target.now c.args.offset.now c.args.m) (delay_at c.args.delay.now) c.args.n c.args.par.now
-    (ready c.args.source.now c.args.target.now c.args.offset.now c.args.delay.now c.args.par.now c.args.m c.args.n c.requires.limits)
-    c.args.from c.args.number c.args.stamp.now c.args.delays.now c.args.offsets.now c.requires.fresh c.loop-stamp.stamp c.loop-stamp.delays c.loop-stamp.offsets c.loop-stamp.v c.loop-stamp.a c.loop-stamp.e
-    c.wide-code.result c.loop-stamp.invariant c.loop-stamp-test.true c.wide-code.ensures (omega arith) in
-    omega (arith, turn-here.is_rule)
+offset_bounds-offset-r c = omega (arith, (turn _ _ _ _ (ready _ _ _ _ _ _ _ c.requires.limits) _ _ _ _ _ c.requires.fresh _ _ _ _ _ _ _ c.loop-stamp.invariant c.loop-stamp-test.true c.wide-code.ensures (omega arith)).is_rule)
 
 pub bounds-offset-r : goal.bounds-offset-r
-bounds-offset-r c =
-    let turn-here = turn (shape c.args.source.now c.args.target.now c.args.offset.now c.args.m) (delay_at c.args.delay.now) c.args.n c.args.par.now
-    (ready c.args.source.now c.args.target.now c.args.offset.now c.args.delay.now c.args.par.now c.args.m c.args.n c.requires.limits)
-    c.args.from c.args.number c.args.stamp.now c.args.delays.now c.args.offsets.now c.requires.fresh c.loop-stamp.stamp c.loop-stamp.delays c.loop-stamp.offsets c.loop-stamp.v c.loop-stamp.a c.loop-stamp.e
-    c.wide-code.result c.loop-stamp.invariant c.loop-stamp-test.true c.wide-code.ensures (omega arith) in
-    omega (arith, turn-here.is_rule)
+bounds-offset-r c = omega (arith, (turn _ _ _ _ (ready _ _ _ _ _ _ _ c.requires.limits) _ _ _ _ _ c.requires.fresh _ _ _ _ _ _ _ c.loop-stamp.invariant c.loop-stamp-test.true c.wide-code.ensures (omega arith)).is_rule)
 
 pub overflow_add-e : goal.overflow_add-e
-overflow_add-e c =
-    let turn-here = turn (shape c.args.source.now c.args.target.now c.args.offset.now c.args.m) (delay_at c.args.delay.now) c.args.n c.args.par.now
-    (ready c.args.source.now c.args.target.now c.args.offset.now c.args.delay.now c.args.par.now c.args.m c.args.n c.requires.limits)
-    c.args.from c.args.number c.args.stamp.now c.args.delays.now c.args.offsets.now c.requires.fresh c.loop-stamp.stamp c.loop-stamp.delays c.loop-stamp.offsets c.loop-stamp.v c.loop-stamp.a c.loop-stamp.e
-    c.wide-code.result c.loop-stamp.invariant c.loop-stamp-test.true c.wide-code.ensures (omega arith) in
-    omega (arith, turn-here.offset_fits)
+overflow_add-e c = omega (arith, (turn _ _ _ _ (ready _ _ _ _ _ _ _ c.requires.limits) _ _ _ _ _ c.requires.fresh _ _ _ _ _ _ _ c.loop-stamp.invariant c.loop-stamp-test.true c.wide-code.ensures (omega arith)).offset_fits)
 
 pub offset_bounds-source-r : goal.offset_bounds-source-r
-offset_bounds-source-r c =
-    let turn-here = turn (shape c.args.source.now c.args.target.now c.args.offset.now c.args.m) (delay_at c.args.delay.now) c.args.n c.args.par.now
-    (ready c.args.source.now c.args.target.now c.args.offset.now c.args.delay.now c.args.par.now c.args.m c.args.n c.requires.limits)
-    c.args.from c.args.number c.args.stamp.now c.args.delays.now c.args.offsets.now c.requires.fresh c.loop-stamp.stamp c.loop-stamp.delays c.loop-stamp.offsets c.loop-stamp.v c.loop-stamp.a c.loop-stamp.e
-    c.wide-code.result c.loop-stamp.invariant c.loop-stamp-test.true c.wide-code.ensures (omega arith) in
-    omega (arith, turn-here.is_rule)
+offset_bounds-source-r c = omega (arith, (turn _ _ _ _ (ready _ _ _ _ _ _ _ c.requires.limits) _ _ _ _ _ c.requires.fresh _ _ _ _ _ _ _ c.loop-stamp.invariant c.loop-stamp-test.true c.wide-code.ensures (omega arith)).is_rule)
 
 pub bounds-source-r : goal.bounds-source-r
-bounds-source-r c =
-    let turn-here = turn (shape c.args.source.now c.args.target.now c.args.offset.now c.args.m) (delay_at c.args.delay.now) c.args.n c.args.par.now
-    (ready c.args.source.now c.args.target.now c.args.offset.now c.args.delay.now c.args.par.now c.args.m c.args.n c.requires.limits)
-    c.args.from c.args.number c.args.stamp.now c.args.delays.now c.args.offsets.now c.requires.fresh c.loop-stamp.stamp c.loop-stamp.delays c.loop-stamp.offsets c.loop-stamp.v c.loop-stamp.a c.loop-stamp.e
-    c.wide-code.result c.loop-stamp.invariant c.loop-stamp-test.true c.wide-code.ensures (omega arith) in
-    omega (arith, turn-here.is_rule)
+bounds-source-r c = omega (arith, (turn _ _ _ _ (ready _ _ _ _ _ _ _ c.requires.limits) _ _ _ _ _ c.requires.fresh _ _ _ _ _ _ _ c.loop-stamp.invariant c.loop-stamp-test.true c.wide-code.ensures (omega arith)).is_rule)
 
 pub loop-stamp-smaller : goal.loop-stamp-smaller
 loop-stamp-smaller c =
-    let turn-here = turn (shape c.args.source.now c.args.target.now c.args.offset.now c.args.m) (delay_at c.args.delay.now) c.args.n c.args.par.now
-    (ready c.args.source.now c.args.target.now c.args.offset.now c.args.delay.now c.args.par.now c.args.m c.args.n c.requires.limits)
-    c.args.from c.args.number c.args.stamp.now c.args.delays.now c.args.offsets.now c.requires.fresh c.loop-stamp.stamp c.loop-stamp.delays c.loop-stamp.offsets c.loop-stamp.v c.loop-stamp.a c.loop-stamp.e
-    c.wide-code.result c.loop-stamp.invariant c.loop-stamp-test.true c.wide-code.ensures (omega arith) in
-    turn-here.less
+    (turn _ _ _ _ (ready _ _ _ _ _ _ _ c.requires.limits) _ _ _ _ _ c.requires.fresh _ _ _ _ _ _ _ c.loop-stamp.invariant c.loop-stamp-test.true c.wide-code.ensures (omega arith)).less
 
 pub loop-stamp-preserved : goal.loop-stamp-preserved
 loop-stamp-preserved c =
-    let turn-here = turn (shape c.args.source.now c.args.target.now c.args.offset.now c.args.m) (delay_at c.args.delay.now) c.args.n c.args.par.now
-    (ready c.args.source.now c.args.target.now c.args.offset.now c.args.delay.now c.args.par.now c.args.m c.args.n c.requires.limits)
-    c.args.from c.args.number c.args.stamp.now c.args.delays.now c.args.offsets.now c.requires.fresh c.loop-stamp.stamp c.loop-stamp.delays c.loop-stamp.offsets c.loop-stamp.v c.loop-stamp.a c.loop-stamp.e
-    c.wide-code.result c.loop-stamp.invariant c.loop-stamp-test.true c.wide-code.ensures (omega arith) in
-    turn-here.on c.wide-v.result c.wide-v.ensures
+    (turn _ _ _ _ (ready _ _ _ _ _ _ _ c.requires.limits) _ _ _ _ _ c.requires.fresh _ _ _ _ _ _ _ c.loop-stamp.invariant c.loop-stamp-test.true c.wide-code.ensures (omega arith)).on c.wide-v.result c.wide-v.ensures
 
 pub overflow_sub-a : goal.overflow_sub-a
 overflow_sub-a c =
