@@ -7,9 +7,8 @@ use Rattle.std.proofs.Common.{sym, ap, ◌∙◌, subst, arith, lt-ltb, le-ltb}
 use Rattle.model.specs.Answer.{Answer}
 use Rattle.rulefile.specs.File.{read_of}
 use Rattle.engine.specs.Verdict.{found, Judges, verdict_unique}
-use Rattle.bids.specs.declared.Bid.{Bid}
 use Rattle.bids.specs.declared.Choice.{Choice}
-use Rattle.bids.specs.Promise.{answered_bid, judged_bid, BidOf, choice_of, File, Handed, BetterOf}
+use Rattle.bids.specs.Promise.{Bid, answered_bid, judged_bid, BidOf, choice_of, File, Handed, BetterOf}
 use Rattle.bids.specs.Steps.{choice_second, choice_first}
 
 pub bid_found : (s : List ℕ) (b : Bid) (a : Answer) → BidOf s b → (read_of s).refusal ≡ 0 → Judges (read_of s).table (found a) → b ≡ answered_bid a

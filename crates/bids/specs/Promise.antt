@@ -1,6 +1,8 @@
 -- Two rule files side by side, and the better of the two. To be read beside document 02, ticket 1.
 --
---   refused_bid f p, answered_bid a   what is known of a bid: refused with number f at place p, and all else 0; or the two ends of the answer a
+--   Bid, Laid                       what is known of a bid, with number 0 and place 0 or those of its refusal; of two bids, and the better one
+--   told_bid x, told_laid l         the same, from the code's own results x and l
+--   refused_bid f p, answered_bid a   refused with number f at place p, and all else 0; or the two ends of the answer a
 --   judged_bid v                     the same for the verdict v on its table: numbers of refusal are the paper's
 --   TableBid t b, ReadBid g b       b is what is known of a bid with the table t; of one of which g was read
 --   BidOf s b                       THE PROMISE of `ends`: b is what is known of the bid with the bytes s
@@ -13,32 +15,47 @@
 --   BetterOf x y r w f p            THE PROMISE of `better`
 --
 -- Theorems: bid_unique, laid_unique, better_unique (one outcome each); bid_first (the first bytes of a file decide).
-use Rattle.std.specs.Prelude.{◌≡◌, Bool, false, List, [], ℕ, ◌+◌, ◌*◌, ◌≤◌, ◌<◌, ltb, take}
+use Rattle.std.specs.Prelude.{◌≡◌, Bool, false, Result, Ok, Err, List, [], ℕ, ◌+◌, ◌*◌, ◌≤◌, ◌<◌, ltb, take}
 use Rattle.std.proofs.Common.{sym, ap, ◌∙◌, subst, arith}
 use Rattle.std.proofs.Math.Logic.{by_cases}
 use Rattle.std.proofs.Math.Decide.{dec_lt}
 use Rattle.std.specs.Borrow.{Bor}
 use Rattle.model.specs.Answer.{Answer}
+use Rattle.refusals.specs.declared.Refusal.{Refusal}
+use Rattle.refusals.specs.Number.{number_of}
 use Rattle.sevens.specs.Sevens.{pick, Bytes}
 use Rattle.table.specs.declared.Table.{Table}
 use Rattle.rulefile.specs.declared.FileRead.{FileRead}
 use Rattle.rulefile.specs.File.{read_of}
 use Rattle.rulefile.specs.Length.{longest}
 use Rattle.rulefile.specs.First.{first_bytes}
+use Rattle.engine.specs.declared.Ratio.{Ratio}
+use Rattle.engine.specs.declared.Range.{Range}
 use Rattle.engine.specs.Verdict.{Verdict, outside, knotted, flat, wide, found, Judges, verdict_unique}
-use Rattle.bids.specs.declared.Ratio.{Ratio}
-use Rattle.bids.specs.declared.Bid.{Bid}
 use Rattle.bids.specs.declared.Choice.{Choice}
 use Rattle.bids.specs.declared.Choice.TheVariants.{Neither, First, Second}
-use Rattle.bids.specs.declared.Laid.{Laid}
+use Rattle.bids.specs.declared.Laid.{Laid as Given}
 
 -- ------------------------------------------------------------------------------------------------------------------------------------- one bid
+
+-- Refused: number and place, and all else 0. Else both ends, and whether they meet.
+pub record Bid : Type 0 where
+  pub refusal : ℕ
+  pub place : ℕ
+  pub exact : Bool
+  pub low : Ratio
+  pub high : Ratio
 
 abbrev pub ratio : ℕ → ℕ → Ratio
 ratio p q = record { p = p; q = q }
 
 abbrev pub refused_bid : ℕ → ℕ → Bid
 refused_bid f p = record { refusal = f; place = p; exact = false; low = ratio 0 0; high = ratio 0 0 }
+
+-- what is told by the ends of a bid, or by its refusal
+abbrev pub told_bid : Result Range Refusal → Bid
+told_bid (Ok r) = record { refusal = 0; place = 0; exact = r.exact; low = r.low; high = r.high }
+told_bid (Err e) = refused_bid (number_of e.why) e.place
 
 abbrev pub answered_bid : Answer → Bid
 answered_bid a = record { refusal = 0; place = 0; exact = a.ends.exact; low = ratio a.ends.low_p a.ends.low_q; high = ratio a.ends.high_p a.ends.high_q }
@@ -90,6 +107,14 @@ choice_of a b =
     pick (ltb 0 a.refusal)
     (pick (ltb 0 b.refusal) Neither Second)
     (pick (ltb 0 b.refusal) First (pick (lower b a) Second First))
+
+pub record Laid : Type 0 where
+  pub first : Bid
+  pub second : Bid
+  pub choice : Choice
+
+abbrev pub told_laid : Given → Laid
+told_laid l = record { first = told_bid l.first; second = told_bid l.second; choice = l.choice }
 
 pub record LaidOf (s t : List ℕ) (l : Laid) : Type 0 where
   pub first : BidOf s l.first

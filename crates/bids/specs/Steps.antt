@@ -3,26 +3,27 @@
 --   Small r          == the ratio r is one whose cross products fit: at most 256,000,000 over at most 3,840, and over no zero
 --   made_bid lap      == what the code makes of the engine's lap
 --
--- Laws: bid_small (an end is small), bid_refused, bid_judged, bid_made (what each way out of `ends` hands back), choice-.. (of `chosen`), better_made (of `better`).
-use Rattle.std.specs.Prelude.{◌≡◌, refl, true, false, List, ℕ, ◌≤◌, ◌<◌}
+-- Laws: bid_small, told_small (an end is small), bid_refused, bid_judged, bid_made (what each way out of `ends` hands back), choice-.. (of `chosen`),
+-- better_made (of `better`).
+use Prim.{tt}
+use Rattle.std.specs.Prelude.{◌≡◌, refl, true, false, Result, Ok, Err, IfOk, List, ℕ, ◌≤◌, ◌<◌}
 use Rattle.std.proofs.Common.{sym, ap, ◌∙◌, subst, arith, lt-ltb, le-ltb}
 use Rattle.std.proofs.Math.Logic.{by_cases}
 use Rattle.std.proofs.Math.Decide.{dec_lt}
+use Rattle.refusals.specs.declared.Refusal.{Refusal}
 use Rattle.model.specs.Answer.{Answer}
 use Rattle.theory.specs.Wide.{period_limits}
 use Rattle.table.specs.declared.Table.{Table}
 use Rattle.table.specs.Meaning.{shape_of, within_fits, within_offsets, within_delays}
 use Rattle.rulefile.specs.declared.FileRead.{FileRead}
 use Rattle.rulefile.specs.File.{read_of}
-use Rattle.engine.specs.declared.Lap.{Lap}
+use Rattle.engine.specs.declared.Ratio.{Ratio}
+use Rattle.engine.specs.declared.Range.{Range}
 use Rattle.engine.specs.Verdict.{Verdict, outside, knotted, flat, wide, found, Judges}
-use Rattle.engine.specs.Lap.{LapOf, lap_of}
-use Rattle.bids.specs.declared.Ratio.{Ratio}
-use Rattle.bids.specs.declared.Bid.{Bid}
+use Rattle.engine.specs.Lap.{Lap, LapOf, lap_of}
 use Rattle.bids.specs.declared.Choice.{Choice}
 use Rattle.bids.specs.declared.Choice.TheVariants.{Neither, First, Second}
-use Rattle.bids.specs.declared.Laid.{Laid}
-use Rattle.bids.specs.Promise.{ratio, refused_bid, judged_bid, TableBid, ReadBid, BidOf, lower, choice_of, LaidOf, File, Handed, BetterOf}
+use Rattle.bids.specs.Promise.{Bid, Laid, ratio, told_bid, refused_bid, judged_bid, TableBid, ReadBid, BidOf, lower, choice_of, LaidOf, File, Handed, BetterOf}
 
 -- ------------------------------------------------------------------------------------------------------------------------------------- small ends
 
@@ -51,6 +52,10 @@ bid_small s b x e =
     (λ l.
     let t = x.accepted (omega arith) in
     subst (λ (c : Bid). Small c.high) (sym t.result) (judged_small (read_of s).table t.verdict t.judged (sym (ap (λ (c : Bid). c.refusal) t.result) ∙ e)))
+
+pub told_small : (s : List ℕ) (r : Result Range Refusal) → BidOf s (told_bid r) → IfOk r (λ x. Small x.high)
+told_small s (Ok x) b = bid_small s (told_bid (Ok x)) b refl
+told_small s (Err e) b = tt
 
 -- --------------------------------------------------------------------------------------------------------------------------------------- one bid
 

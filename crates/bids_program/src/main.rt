@@ -45,7 +45,5 @@ fn main(rt: HostRuntime) -> io::Result<()> {
     let a = input::read_full(&mut one, &mut first)?;
     let b = input::read_full(&mut two, &mut second)?;
     let text = bids_text::side_by_side(&first[..a], &second[..b]);
-    let len = text.len;
-    let bytes = text.bytes;
-    rt.write_all(&bytes[..len])
+    rt.write_all(&text.bytes[..text.len])
 }

@@ -1,8 +1,7 @@
 -- The definitions of the text against lines written out. Nothing cites this file: a definition that prints otherwise is refused here.
 use Rattle.std.specs.Prelude.{◌≡◌, refl, true, false}
-use Rattle.bids.specs.declared.Bid.{Bid}
 use Rattle.bids.specs.declared.Choice.TheVariants.{Neither, First}
-use Rattle.bids.specs.Promise.{refused_bid, ratio}
+use Rattle.bids.specs.Promise.{Bid, refused_bid, ratio}
 use Rattle.words.specs.Decimal.{ascii, digits_in, decimal}
 use Rattle.bids_text.specs.Pair.{pair_text}
 

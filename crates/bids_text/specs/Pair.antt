@@ -11,11 +11,9 @@ use Rattle.std.specs.Prelude.{◌≡◌, true, false, List, ◌++◌, ℕ, ◌+�
 use Rattle.std.proofs.Common.{ap, lt-ltb, le-ltb}
 use Rattle.sevens.specs.Sevens.{Bytes}
 use Rattle.rulefile.specs.Length.{longest}
-use Rattle.bids.specs.declared.Bid.{Bid}
 use Rattle.bids.specs.declared.Choice.{Choice}
 use Rattle.bids.specs.declared.Choice.TheVariants.{Neither, First, Second}
-use Rattle.bids.specs.declared.Laid.{Laid}
-use Rattle.bids.specs.Promise.{LaidOf, laid_unique, bid_first}
+use Rattle.bids.specs.Promise.{Bid, Laid, LaidOf, laid_unique, bid_first}
 use Rattle.words.specs.declared.Text.{Text}
 use Rattle.words.specs.Decimal.{ascii, pick}
 use Rattle.words.specs.Lines.{refused_line_of, exact_line_of, range_line_of}

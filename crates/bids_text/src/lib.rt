@@ -3,25 +3,24 @@
 
 ghost use Rattle.std.specs.Prelude.{◌+◌, ◌≤◌, length};
 ghost use Rattle.words.specs.Puts.{Puts};
+ghost use Rattle.bids.specs.Promise.{told_bid, told_laid};
 ghost use Rattle.bids_text.specs.Pair.{bid_line_of, better_line_of, pair_text, PairOf};
 
-use bids::{Bid, Choice, Laid};
+use bids::{Choice, Laid};
+use engine::Range;
+use refusals::Refusal;
 use words::Text;
 
 // A name, then the bid's ends or its refusal.
-fn bid_line(name: &[u8], b: Bid, out: &mut [u8], at: usize) -> usize
-    ensures { Puts (bid_line_of name.now b) out.old at out.new result × (result ≤ at + length name.now + 99) }
+fn bid_line(name: &[u8], bid: Result<Range, Refusal>, out: &mut [u8], at: usize) -> usize
+    ensures { Puts (bid_line_of name.now (told_bid bid)) out.old at out.new result × (result ≤ at + length name.now + 99) }
 {
     let a = words::word(name, out, at);
-    if 0 < b.refusal {
-        return words::refused_line(b.refusal, b.place, out, a);
+    match bid {
+        Err(e) => words::refused_line(e.why.number(), e.place, out, a),
+        Ok(b) if b.exact => words::exact_line(b.high.p, b.high.q, out, a),
+        Ok(b) => words::range_line(b.low.p, b.low.q, b.high.p, b.high.q, out, a),
     }
-    let low = b.low;
-    let high = b.high;
-    if b.exact {
-        return words::exact_line(high.p, high.q, out, a);
-    }
-    words::range_line(low.p, low.q, high.p, high.q, out, a)
 }
 
 fn better_line(choice: Choice, out: &mut [u8], at: usize) -> usize
@@ -36,14 +35,11 @@ fn better_line(choice: Choice, out: &mut [u8], at: usize) -> usize
 
 // The three lines.
 fn lines(laid: Laid, out: &mut [u8], at: usize) -> usize
-    ensures { Puts (pair_text laid) out.old at out.new result × (result ≤ at + 226) }
+    ensures { Puts (pair_text (told_laid laid)) out.old at out.new result × (result ≤ at + 226) }
 {
-    let first = laid.first;
-    let second = laid.second;
-    let choice = laid.choice;
-    let a = bid_line(b"first ", first, out, at);
-    let b = bid_line(b"second ", second, out, a);
-    better_line(choice, out, b)
+    let a = bid_line(b"first ", laid.first, out, at);
+    let b = bid_line(b"second ", laid.second, out, a);
+    better_line(laid.choice, out, b)
 }
 
 // The whole text for two files: the ends or the refusal of each, and which is the better.
@@ -53,8 +49,5 @@ pub fn side_by_side(first: &[u8], second: &[u8]) -> Text
     let laid = bids::side_by_side(first, second);
     let mut bytes = [0u8; Text::ROOM];
     let len = lines(laid, &mut bytes, 0);
-    Text {
-        len: len,
-        bytes: bytes,
-    }
+    Text { len, bytes }
 }

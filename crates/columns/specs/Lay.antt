@@ -18,8 +18,8 @@ use Rattle.table.specs.declared.Rule.{Rule}
 use Rattle.table.specs.declared.Table.{Table}
 use Rattle.table.specs.Limits.{max_delay}
 use Rattle.table.specs.Form.{unused_rule, rule_of}
-use Rattle.table.specs.declared.Checked.{Checked}
-use Rattle.table.specs.Fields.{Within, FirstBad, Judged}
+use Rattle.refusals.specs.Number.{Told}
+use Rattle.table.specs.Fields.{DelayOk, Within, FirstBad, Judged}
 use Rattle.table.specs.Meaning.{used, delay_meant, shape_of, ranges_of, used_rule, within_delays}
 use Rattle.columns.specs.Columns.{shape, Limits, Ordered}
 
@@ -98,6 +98,11 @@ pub ordered : (d : Delay) → least_of (delay_meant d) ≤ greatest_of max_delay
 ordered Unknown = omega arith
 ordered (Known d) = omega arith
 
+-- and no more than a delay may be
+pub greatest_short : (d : Delay) → DelayOk d → greatest_of max_delay (delay_meant d) ≤ max_delay
+greatest_short Unknown h = omega arith
+greatest_short (Known d) h = h
+
 -- a column of a field of the rules is that field of the rules in use
 column_used : (t : Table) (f : Rule → ℕ) → f unused_rule ≡ 0 → (xs : List ℕ) → Column (λ r. f (rule_of t r)) t.m xs → (r : ℕ) → get_or xs r 0 ≡ f (get_or (used t) r unused_rule)
 column_used t f z xs c r =
@@ -129,11 +134,11 @@ module _ (t : Table) (s g o l h : List ℕ) (b : Bool) (c : Laid t t.m s g o l h
   laid_greatest r d = c.greatests.filled r d ∙ ap (λ (x : Rule). greatest_of max_delay (delay_meant x.delay)) (sym (used_rule t r d))
 
 -- what a check of the table leaves to know
-pub judged_outside : (t : Table) (x : Checked) → Judged t x → 0 < x.refusal → FirstBad t x.place × (x.refusal ≡ 3)
+pub judged_outside : (t : Table) (x : Told) → Judged t x → 0 < x.refusal → FirstBad t x.place × (x.refusal ≡ 3)
 judged_outside t x (inl a) b = absurd (omega (arith, a.1))
 judged_outside t x (inr a) b = a
 
-pub judged_within : (t : Table) (x : Checked) → Judged t x → x.refusal ≤ 0 → Within t
+pub judged_within : (t : Table) (x : Told) → Judged t x → x.refusal ≤ 0 → Within t
 judged_within t x (inl a) b = a.0
 judged_within t x (inr a) b = absurd (omega (arith, a.1))
 

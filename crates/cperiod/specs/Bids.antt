@@ -6,10 +6,9 @@
 -- Theorems: bids_from_unique (one outcome), bids_from_part (which bytes the part is, and where it lies). Step: bids_made.
 use Rattle.std.specs.Prelude.{ℕ, ◌≡◌, refl, length, take}
 use Rattle.std.proofs.Common.{sym, ap, ◌∙◌, subst, take_all, arith}
-use Rattle.bids.specs.declared.Bid.{Bid}
 use Rattle.bids.specs.declared.Choice.{Choice}
 use Rattle.bids.specs.declared.Choice.TheVariants.{Neither, First, Second}
-use Rattle.bids.specs.Promise.{choice_of, File, Handed, BetterOf, better_unique}
+use Rattle.bids.specs.Promise.{Bid, choice_of, File, Handed, BetterOf, better_unique}
 use Rattle.cperiod.specs.declared.PeriodBids.{PeriodBids}
 
 abbrev pub flat_bids : ℕ → ℕ → ℕ → File → PeriodBids

@@ -1,3 +1,2 @@
 pub mod Promise
-pub mod Steps
 pub mod Bids

@@ -17,17 +17,14 @@ use Rattle.std.proofs.Math.Logic.{by_cases}
 use Rattle.std.proofs.Math.Decide.{dec_lt}
 use Rattle.sevens.specs.Sevens.{Answer, number_of}
 use Rattle.table.specs.declared.Table.{Table}
-use Rattle.period.specs.declared.Analysis.{Analysis}
-use Rattle.rates.specs.declared.Rated.{Rated}
-use Rattle.rates.specs.Rate.{refused_rate, RateOf, rate_unique}
-use Rattle.period.specs.Promise.{Outcome, outcome, refused_analysis, AnalysisOf, analysis_unique}
-use Rattle.rulefile.specs.declared.Written.{Written}
-use Rattle.rulefile.specs.File.{groups, refused_write, written_as, Writes}
+use Rattle.refusals.specs.Number.{Told as Simulated}
+use Rattle.rates.specs.Rate.{Rated, refused_rate, RateOf, rate_unique}
+use Rattle.period.specs.Promise.{Analysis, Outcome, outcome, refused_analysis, AnalysisOf, analysis_unique}
+use Rattle.rulefile.specs.File.{groups, Written, refused_write, written_as, Writes}
 use Rattle.rulefile.specs.RoundTrip.{writes_unique}
-use Rattle.simulation.specs.declared.Simulated.{Simulated}
 use Rattle.simulation.specs.Simulation.{SimulationOf, simulation_unique}
 use Rattle.text.specs.Text.{FileText, text_unique}
-use Rattle.handed.specs.declared.Handed.{Handed}
+use Rattle.handed.specs.Columns.{Handed}
 use Rattle.cperiod.specs.declared.PeriodAnalysis.{PeriodAnalysis}
 use Rattle.cperiod.specs.declared.PeriodRate.{PeriodRate}
 use Rattle.cperiod.specs.declared.PeriodCount.{PeriodCount}

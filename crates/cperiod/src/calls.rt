@@ -1,215 +1,186 @@
-// Each call on what was handed in, its answer in the form that C gets.
-ghost use Rattle.std.specs.Prelude.{◌≡◌, ◌++◌, ◌≤◌, length, take, drop};
-ghost use Rattle.words.specs.Held.{room};
-ghost use Rattle.rates.specs.Rate.{refused_rate};
-ghost use Rattle.period.specs.Promise.{refused_analysis};
-ghost use Rattle.cperiod.specs.Promise.{bit_of, flat_analysis_of, AnalysisFrom, flat_rate_of, WritingFrom, SimulationFrom, ReportFrom, number_in};
+// Each call on what was handed in, and its answer in the form that C gets.
+ghost use Rattle.std.specs.Prelude.{◌≡◌};
+ghost use Rattle.refusals.specs.Number.{told};
+ghost use Rattle.rates.specs.Rate.{told_rate};
+ghost use Rattle.period.specs.Promise.{told_analysis};
+ghost use Rattle.rulefile.specs.File.{told_written};
+ghost use Rattle.handed.specs.Columns.{told_handed};
+ghost use Rattle.cperiod.specs.Promise.{flat_analysis_of, AnalysisFrom, flat_rate_of, RateFrom, flat_count, WritingFrom, flat_status, SimulationFrom, ReportFrom, number_in};
 ghost use Rattle.cperiod.specs.Bids.{BidsFrom};
 
 use crate::{PeriodAnalysis, PeriodBids, PeriodCount, PeriodNumber, PeriodRate, PeriodStatus};
-use handed::Handed;
 use period::Analysis;
-use rates::Rated;
-use words::Text;
+use rates::Range;
+use refusals::{Refusal, Why};
+use table::Table;
 
-const ROOM: u32 = 8;
+// C has no `Result`: it gets number 0 and place 0 beside an answer, or those of a refusal, and all else 0.
+impl From<Result<Analysis, Refusal>> for PeriodAnalysis {
+    ghost from_gives = { λ x r. r ≡ flat_analysis_of (told_analysis x) };
 
-fn bit(b: bool) -> u32
-    ensures { result ≡ bit_of b }
-{
-    if b {
-        return 1;
-    }
-    0
-}
-
-fn flat_analysis(a: Analysis) -> PeriodAnalysis
-    ensures { result ≡ flat_analysis_of a }
-{
-    let low = a.low;
-    let high = a.high;
-    PeriodAnalysis {
-        refusal: a.refusal,
-        exact: bit(a.exact),
-        place: a.place,
-        lowp: low.p,
-        lowq: low.q,
-        lowlen: low.len,
-        highp: high.p,
-        highq: high.q,
-        highlen: high.len,
+    fn from(x: Result<Analysis, Refusal>) -> PeriodAnalysis {
+        match x {
+            Ok(a) => PeriodAnalysis {
+                refusal: 0,
+                exact: u32::from(a.exact),
+                place: 0,
+                lowp: a.low.p,
+                lowq: a.low.q,
+                lowlen: a.low.len,
+                highp: a.high.p,
+                highq: a.high.q,
+                highlen: a.high.len,
+            },
+            Err(e) => PeriodAnalysis {
+                refusal: e.why.number(),
+                place: e.place,
+                ..PeriodAnalysis::default()
+            },
+        }
     }
 }
 
-fn unanalysed(refusal: u32, place: usize) -> PeriodAnalysis
-    ensures { result ≡ flat_analysis_of (refused_analysis refusal place) }
-{
-    PeriodAnalysis {
-        refusal: refusal,
-        exact: 0,
-        place: place,
-        lowp: 0,
-        lowq: 0,
-        lowlen: 0,
-        highp: 0,
-        highq: 0,
-        highlen: 0,
+impl From<Result<Range, Refusal>> for PeriodRate {
+    ghost from_gives = { λ x r. r ≡ flat_rate_of (told_rate x) };
+
+    fn from(x: Result<Range, Refusal>) -> PeriodRate {
+        match x {
+            Ok(a) => PeriodRate {
+                refusal: 0,
+                exact: u32::from(a.exact),
+                place: 0,
+                lowp: a.low.p,
+                lowq: a.low.q,
+                highp: a.high.p,
+                highq: a.high.q,
+            },
+            Err(e) => PeriodRate {
+                refusal: e.why.number(),
+                place: e.place,
+                ..PeriodRate::default()
+            },
+        }
+    }
+}
+
+impl From<Result<usize, Refusal>> for PeriodCount {
+    ghost from_gives = { λ x r. r ≡ flat_count (told_written x) };
+
+    fn from(x: Result<usize, Refusal>) -> PeriodCount {
+        match x {
+            Ok(count) => PeriodCount {
+                refusal: 0,
+                place: 0,
+                count,
+            },
+            Err(e) => PeriodCount {
+                refusal: e.why.number(),
+                place: e.place,
+                count: 0,
+            },
+        }
+    }
+}
+
+impl From<Result<(), Refusal>> for PeriodStatus {
+    ghost from_gives = { λ x r. r ≡ flat_status (told x) };
+
+    fn from(x: Result<(), Refusal>) -> PeriodStatus {
+        match x {
+            Ok(()) => PeriodStatus {
+                refusal: 0,
+                place: 0,
+            },
+            Err(e) => PeriodStatus {
+                refusal: e.why.number(),
+                place: e.place,
+            },
+        }
     }
 }
 
 // The analysis of what was handed in.
 pub fn analysed(
-    handed: Handed,
+    handed: Result<Table, Refusal>,
     schedule: &mut [u64],
     low: &mut [u32],
     high: &mut [u32],
-) -> PeriodAnalysis
-    ensures { AnalysisFrom handed schedule.old low.old high.old result schedule.new low.new high.new }
+) -> Result<Analysis, Refusal>
+    ensures { AnalysisFrom (told_handed handed) schedule.old low.old high.old (flat_analysis_of (told_analysis result)) schedule.new low.new high.new }
 {
-    if 0 < handed.refusal {
-        return unanalysed(handed.refusal, handed.place);
-    }
-    let t = handed.table;
-    let a = period::analyse(t, schedule, low, high);
-    flat_analysis(a)
+    period::analyse(handed?, schedule, low, high)
 }
 
-pub fn flat_rate(a: Rated) -> PeriodRate
-    ensures { result ≡ flat_rate_of a }
+// The rate of transition v of what was handed in.
+pub fn rated(handed: Result<Table, Refusal>, v: usize) -> Result<Range, Refusal>
+    ensures { RateFrom (told_handed handed) v (flat_rate_of (told_rate result)) }
 {
-    let low = a.low;
-    let high = a.high;
-    PeriodRate {
-        refusal: a.refusal,
-        exact: bit(a.exact),
-        place: a.place,
-        lowp: low.p,
-        lowq: low.q,
-        highp: high.p,
-        highq: high.q,
-    }
-}
-
-pub fn unrated(refusal: u32, place: usize) -> PeriodRate
-    ensures { result ≡ flat_rate_of (refused_rate refusal place) }
-{
-    PeriodRate {
-        refusal: refusal,
-        exact: 0,
-        place: place,
-        lowp: 0,
-        lowq: 0,
-        highp: 0,
-        highq: 0,
-    }
+    period::rate(handed?, v)
 }
 
 // The rule file of what was handed in.
-pub fn written(handed: Handed, out: &mut [u8]) -> PeriodCount
-    ensures { WritingFrom handed out.old result out.new }
+pub fn written(handed: Result<Table, Refusal>, out: &mut [u8]) -> Result<usize, Refusal>
+    ensures { WritingFrom (told_handed handed) out.old (flat_count (told_written result)) out.new }
 {
-    if 0 < handed.refusal {
-        return PeriodCount {
-            refusal: handed.refusal,
-            place: handed.place,
-            count: 0,
-        };
-    }
-    let t = handed.table;
-    let w = rulefile::write(t, out);
-    PeriodCount {
-        refusal: w.refusal,
-        place: w.place,
-        count: w.count,
-    }
+    rulefile::write(handed?, out)
 }
 
 // The timing simulation of what was handed in.
-pub fn simulated(handed: Handed, occurrences: usize, times: &mut [u64]) -> PeriodStatus
-    ensures { SimulationFrom handed occurrences times.old result times.new }
+pub fn simulated(
+    handed: Result<Table, Refusal>,
+    occurrences: usize,
+    times: &mut [u64],
+) -> Result<(), Refusal>
+    ensures { SimulationFrom (told_handed handed) occurrences times.old (flat_status (told result)) times.new }
 {
-    if 0 < handed.refusal {
-        return PeriodStatus {
-            refusal: handed.refusal,
-            place: handed.place,
-        };
-    }
-    let t = handed.table;
-    let s = simulation::simulate(t, occurrences, times);
-    PeriodStatus {
-        refusal: s.refusal,
-        place: s.place,
-    }
-}
-
-// The first n bytes into the lowest places of a lent buffer; the rest of it stays.
-fn put_text(x: [u8; Text::ROOM], n: usize, out: &mut [u8])
-    requires { (n ≤ room) × (n ≤ length out.old) }
-    ensures { out.new ≡ take n x ++ drop n out.old }
-{
-    let mut i = 0;
-    while i < n {
-        out[i] = x[i];
-        i += 1;
-    }
+    simulation::simulate(handed?, occurrences, times)
 }
 
 // The text for a file into a lent buffer.
-pub fn reported(bytes: &[u8], out: &mut [u8]) -> PeriodCount
-    ensures { ReportFrom bytes.now out.old result out.new }
+pub fn reported(bytes: &[u8], out: &mut [u8]) -> Result<usize, Refusal>
+    ensures { ReportFrom bytes.now out.old (flat_count (told_written result)) out.new }
 {
     let report = text::report(bytes);
-    let len = report.len;
-    if out.len() < len {
-        return PeriodCount {
-            refusal: ROOM,
-            place: len,
-            count: 0,
-        };
+    if out.len() < report.len {
+        return Err(Why::Room.at(report.len));
     }
-    let x = report.bytes;
-    put_text(x, len, out);
-    PeriodCount {
-        refusal: 0,
-        place: 0,
-        count: len,
-    }
+    out[..report.len].copy_from_slice(&report.bytes[..report.len]);
+    Ok(report.len)
 }
 
 // The number at the front of some bytes; a part cannot be handed to C, so its length is.
+#[tactic(auto, unfolding(crate::specs::Promise::number_in))]
 pub fn number(bytes: &[u8], low: u32, high: u32) -> PeriodNumber
     ensures { result ≡ number_in bytes.now low high }
 {
-    let mut value = 0u32;
-    let mut refusal = 0u32;
-    let mut place = 0usize;
-    let rest = sevens::number(bytes, low, high, &mut value, &mut refusal, &mut place);
-    PeriodNumber {
-        refusal: refusal,
-        value: value,
-        place: place,
-        rest: rest.len(),
+    match sevens::number(bytes, low, high) {
+        (Ok(value), rest) => PeriodNumber {
+            refusal: 0,
+            value,
+            place: 0,
+            rest: rest.len(),
+        },
+        (Err(e), rest) => PeriodNumber {
+            refusal: e.why.number(),
+            value: 0,
+            place: e.place,
+            rest: rest.len(),
+        },
     }
 }
 
-fn wide(x: u8) -> u32
-    ensures { result ≡ x }
-{
-    x as u32
-}
-
 // The better of two files; a part cannot be handed to C, so which file it starts and its length are.
-pub fn chosen<'a>(first: &'a [u8], second: &'a [u8]) -> PeriodBids
+pub fn chosen(first: &[u8], second: &[u8]) -> PeriodBids
     ensures { BidsFrom first.entry second.entry result }
 {
-    let mut which = 0u8;
-    let mut refusal = 0u32;
-    let mut place = 0usize;
+    let mut which = 0;
+    let mut refusal = 0;
+    let mut place = 0;
     let part = bids::better(first, second, &mut which, &mut refusal, &mut place);
     PeriodBids {
-        refusal: refusal,
-        which: wide(which),
-        place: place,
+        refusal,
+        which: u32::from(which),
+        place,
         length: part.len(),
     }
 }

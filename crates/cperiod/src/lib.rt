@@ -12,7 +12,7 @@ use handed::PeriodTable;
 
 // Refused: number and place, and all else 0. `exact` is 0 or 1.
 #[repr(C)]
-#[derive(Clone, Copy)]
+#[derive(Clone, Copy, PartialEq, Eq, Debug, Default)]
 pub struct PeriodAnalysis {
     pub refusal: u32,
     pub exact: u32,
@@ -27,7 +27,7 @@ pub struct PeriodAnalysis {
 
 // Likewise.
 #[repr(C)]
-#[derive(Clone, Copy)]
+#[derive(Clone, Copy, PartialEq, Eq, Debug, Default)]
 pub struct PeriodRate {
     pub refusal: u32,
     pub exact: u32,
@@ -40,7 +40,7 @@ pub struct PeriodRate {
 
 // Refused: number and place, and 0. Else 0, 0 and how many bytes were written.
 #[repr(C)]
-#[derive(Clone, Copy)]
+#[derive(Clone, Copy, PartialEq, Eq, Debug)]
 pub struct PeriodCount {
     pub refusal: u32,
     pub place: usize,
@@ -49,7 +49,7 @@ pub struct PeriodCount {
 
 // 0 and 0, or a number of refusal and its place.
 #[repr(C)]
-#[derive(Clone, Copy)]
+#[derive(Clone, Copy, PartialEq, Eq, Debug)]
 pub struct PeriodStatus {
     pub refusal: u32,
     pub place: usize,
@@ -57,7 +57,7 @@ pub struct PeriodStatus {
 
 // Refused: number and place, and 0, 0. Else the value, and how many bytes are left after it.
 #[repr(C)]
-#[derive(Clone, Copy)]
+#[derive(Clone, Copy, PartialEq, Eq, Debug)]
 pub struct PeriodNumber {
     pub refusal: u32,
     pub value: u32,
@@ -67,7 +67,7 @@ pub struct PeriodNumber {
 
 // The better of two files: which of the two, 0 or 1, and how many bytes of it from its start on. Refused: the first file's number and place, and 0, 0.
 #[repr(C)]
-#[derive(Clone, Copy)]
+#[derive(Clone, Copy, PartialEq, Eq, Debug)]
 pub struct PeriodBids {
     pub refusal: u32,
     pub which: u32,
@@ -90,7 +90,7 @@ pub fn period_analyse(
     ensures { AnalysisFrom (columns_of_table n (columns source.now target.now offset.now delay.now known.now)) schedule.old low.old high.old result schedule.new low.new high.new }
 {
     let handed = handed::from_columns(n, source, target, offset, delay, known);
-    calls::analysed(handed, schedule, low, high)
+    calls::analysed(handed, schedule, low, high).into()
 }
 
 // The rate of transition v of a table handed in as columns.
@@ -106,12 +106,7 @@ pub fn period_rate(
     ensures { RateFrom (columns_of_table n (columns source.now target.now offset.now delay.now known.now)) v result }
 {
     let handed = handed::from_columns(n, source, target, offset, delay, known);
-    if 0 < handed.refusal {
-        return calls::unrated(handed.refusal, handed.place);
-    }
-    let t = handed.table;
-    let a = period::rate(t, v);
-    calls::flat_rate(a)
+    calls::rated(handed, v).into()
 }
 
 // The rule file of a table handed in as columns.
@@ -127,7 +122,7 @@ pub fn period_write(
     ensures { WritingFrom (columns_of_table n (columns source.now target.now offset.now delay.now known.now)) out.old result out.new }
 {
     let handed = handed::from_columns(n, source, target, offset, delay, known);
-    calls::written(handed, out)
+    calls::written(handed, out).into()
 }
 
 // The timing simulation of a table handed in as columns.
@@ -144,7 +139,7 @@ pub fn period_simulate(
     ensures { SimulationFrom (columns_of_table n (columns source.now target.now offset.now delay.now known.now)) occurrences times.old result times.new }
 {
     let handed = handed::from_columns(n, source, target, offset, delay, known);
-    calls::simulated(handed, occurrences, times)
+    calls::simulated(handed, occurrences, times).into()
 }
 
 // The table of a rule file, as columns.
@@ -170,36 +165,28 @@ pub fn period_file_analyse(
 ) -> PeriodAnalysis
     ensures { AnalysisFrom (bytes_of bytes.now) schedule.old low.old high.old result schedule.new low.new high.new }
 {
-    let handed = handed::from_file(bytes);
-    calls::analysed(handed, schedule, low, high)
+    calls::analysed(handed::from_file(bytes), schedule, low, high).into()
 }
 
 // The rate of transition v of the table of a rule file.
 pub fn period_file_rate(bytes: &[u8], v: usize) -> PeriodRate
     ensures { RateFrom (bytes_of bytes.now) v result }
 {
-    let handed = handed::from_file(bytes);
-    if 0 < handed.refusal {
-        return calls::unrated(handed.refusal, handed.place);
-    }
-    let t = handed.table;
-    let a = period::rate(t, v);
-    calls::flat_rate(a)
+    calls::rated(handed::from_file(bytes), v).into()
 }
 
 // The timing simulation of the table of a rule file.
 pub fn period_file_simulate(bytes: &[u8], occurrences: usize, times: &mut [u64]) -> PeriodStatus
     ensures { SimulationFrom (bytes_of bytes.now) occurrences times.old result times.new }
 {
-    let handed = handed::from_file(bytes);
-    calls::simulated(handed, occurrences, times)
+    calls::simulated(handed::from_file(bytes), occurrences, times).into()
 }
 
 // What the program `report` prints for the bytes of a rule file.
 pub fn period_report(bytes: &[u8], out: &mut [u8]) -> PeriodCount
     ensures { ReportFrom bytes.now out.old result out.new }
 {
-    calls::reported(bytes, out)
+    calls::reported(bytes, out).into()
 }
 
 // The number at the front of some bytes, from `low` to `high`.

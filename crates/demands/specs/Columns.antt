@@ -3,7 +3,7 @@
 --   columns_refused    a reading into columns refused: number and place, sizes 0, and the five columns as they were lent
 use Rattle.std.specs.Prelude.{◌≡◌, refl, ◌<◌, ltb}
 use Rattle.std.proofs.Common.{arith}
-use Rattle.handed.specs.declared.Handed.{Handed}
+use Rattle.handed.specs.Columns.{Handed}
 use Rattle.handed.specs.Columns.{Columns, ReadColumns, read_as, refused_columns, read_into, short_for}
 use Rattle.demands.specs.Demand1.{picked}
 

@@ -30,13 +30,12 @@ use Rattle.sevens.specs.declared.Raw.{Raw}
 use Rattle.sevens.specs.declared.Raw.TheVariants.{Cut, Long, Value}
 use Rattle.sevens.specs.Sevens.{pick, Answer, refused, limited, raw_of, number_of, Read}
 use Rattle.table.specs.declared.Table.{Table}
-use Rattle.table.specs.declared.Checked.{Checked}
+use Rattle.refusals.specs.Number.{Told}
 use Rattle.table.specs.Fields.{FirstBad, Judged, within_or_first_bad}
 use Rattle.rulefile.specs.declared.FileRead.{FileRead}
-use Rattle.rulefile.specs.declared.Written.{Written}
-use Rattle.rates.specs.declared.Rated.{Rated}
-use Rattle.simulation.specs.declared.Simulated.{Simulated}
-use Rattle.bids.specs.declared.Bid.{Bid}
+use Rattle.rulefile.specs.File.{Written}
+use Rattle.rates.specs.Rate.{Rated}
+use Rattle.bids.specs.Promise.{Bid}
 use Rattle.bids.specs.declared.Choice.{Choice}
 use Rattle.bids.specs.declared.Choice.TheVariants.{Neither, First, Second}
 use Rattle.engine.specs.Verdict.{Verdict, outside, knotted, flat, wide, found}
@@ -83,7 +82,7 @@ number_exists g low high s =
 -- --------------------------------------------------------------------------------------------------------------------------------------- a table
 
 -- A TABLE REFUSED: 3, at its first field outside the limits
-pub check_refused : (t : Table) (x : Checked) → Judged t x → 0 < x.refusal → (x.refusal ≡ 3) × FirstBad t x.place
+pub check_refused : (t : Table) (x : Told) → Judged t x → 0 < x.refusal → (x.refusal ≡ 3) × FirstBad t x.place
 check_refused t x (inl a) l = absurd (omega (arith, a.1))
 check_refused t x (inr a) l = (a.1, a.0)
 
@@ -158,7 +157,7 @@ rate_refused t v r is = subst⁻¹ (λ (x : Rated). 0 < x.refusal → x ≡ refu
 -- ---------------------------------------------------------------------------------------------------------------------------------- a simulation
 
 -- A SIMULATION REFUSED: number and place are all that it hands back, and the buffer is as it was lent
-pub simulation_refused : (t : Table) (N : ℕ) (out₀ : List ℕ) (r : Simulated) (out : List ℕ) → SimulationOf t N out₀ r out → 0 < r.refusal → out ≡ out₀
+pub simulation_refused : (t : Table) (N : ℕ) (out₀ : List ℕ) (r : Told) (out : List ℕ) → SimulationOf t N out₀ r out → 0 < r.refusal → out ≡ out₀
 simulation_refused t N out₀ r out x l = ⊎_elim (λ c. c.3.kept) (λ c. absurd (omega (arith, c.2.number))) (simulation_cases t N out₀ r out x)
 
 -- ------------------------------------------------------------------------------------------------------------------------------------------ bids

@@ -44,11 +44,11 @@ use Rattle.table.specs.Limits.{max_delay}
 use Rattle.table.specs.Form.{SameRules}
 use Rattle.table.specs.Fields.{Within, within_not_bad}
 use Rattle.table.specs.Meaning.{delay_meant, shape_of, ranges_of, within_fits}
-use Rattle.period.specs.declared.Analysis.{Analysis}
+use Rattle.period.specs.Promise.{Analysis}
 use Rattle.rulefile.specs.declared.FileRead.{FileRead}
-use Rattle.rulefile.specs.declared.Written.{Written}
-use Rattle.rates.specs.declared.Rated.{Rated}
-use Rattle.simulation.specs.declared.Simulated.{Simulated}
+use Rattle.rulefile.specs.File.{Written}
+use Rattle.rates.specs.Rate.{Rated}
+use Rattle.refusals.specs.Number.{Told}
 use Rattle.rulefile.specs.File.{read_of, written_as, Writes}
 use Rattle.period.specs.Promise.{Outcome, outcome, end_of, into, answered_analysis, AnalysisOf}
 use Rattle.rates.specs.Rate.{RateVerdict, bad_field, no_name, knot_at, unreached, too_wide, rated, JudgesRate, rate_never_wide, rate_verdict_unique, refused_rate, rated_of, RateOf}
@@ -246,7 +246,7 @@ pub record SimulatedTimes (t : Table) (D : ℕ → ℕ) (N : ℕ) (out : List �
   pub least : (T : ℕ → ℕ → ℕ) → Timing (shape_of t) D N t.n T → (i v : ℕ) → i < N → v < t.n → get_or out (i * t.n + v) 0 ≤ T i v
 
 -- THE TIMES: a simulation that is not refused leaves them in its buffer
-pub simulation_times : (t : Table) (D : ℕ → ℕ) → DelaysAre t D → (N : ℕ) (out₀ : List ℕ) (r : Simulated) (out : List ℕ) → SimulationOf t N out₀ r out → r.refusal ≡ 0
+pub simulation_times : (t : Table) (D : ℕ → ℕ) → DelaysAre t D → (N : ℕ) (out₀ : List ℕ) (r : Told) (out : List ℕ) → SimulationOf t N out₀ r out → r.refusal ≡ 0
     → SimulatedTimes t D N out
 simulation_times t D known N out₀ r out is none =
     ⊎_elim (λ c. absurd (omega (arith, c.2, c.3.number))) (λ c. held c.0 c.1 c.2) (simulation_cases t N out₀ r out is)

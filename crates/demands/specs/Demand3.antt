@@ -22,9 +22,9 @@ use Rattle.model.specs.Rate.{Rate}
 use Rattle.model.specs.Answer.{Answer}
 use Rattle.table.specs.declared.Table.{Table}
 use Rattle.table.specs.Meaning.{shape_of, ranges_of}
-use Rattle.period.specs.declared.Analysis.{Analysis}
+use Rattle.period.specs.Promise.{Analysis}
 use Rattle.rulefile.specs.declared.FileRead.{FileRead}
-use Rattle.rates.specs.declared.Rated.{Rated}
+use Rattle.rates.specs.Rate.{Rated}
 use Rattle.engine.specs.Verdict.{Verdict, outside, knotted, flat, wide, found}
 use Rattle.rulefile.specs.File.{read_of, accepted_read}
 use Rattle.period.specs.Promise.{Outcome, judged_outcome, outcome_of, AnalysisOf}

@@ -23,23 +23,22 @@ use Rattle.theory.specs.Knot.{knot_unique, knot_not_live, knot_or_live}
 use Rattle.table.specs.declared.Delay.{Delay}
 use Rattle.table.specs.declared.Delay.TheVariants.{Known, Unknown}
 use Rattle.table.specs.declared.Table.{Table}
-use Rattle.table.specs.declared.Checked.{Checked}
+use Rattle.refusals.specs.Number.{Told}
 use Rattle.table.specs.Limits.{min_occurrences, max_occurrences}
 use Rattle.table.specs.Form.{unused_rule}
 use Rattle.table.specs.Fields.{Within, FirstBad, Judged, within_or_first_bad, within_not_bad, first_bad_unique}
 use Rattle.table.specs.Meaning.{used, delay_meant, shape_of, ranges_of, within_fits}
-use Rattle.rulefile.specs.declared.Written.{Written}
+use Rattle.rulefile.specs.File.{Written}
 use Rattle.rulefile.specs.File.{file_of, read_of, refused_write, written_as, Writes}
 use Rattle.engine.specs.Verdict.{verdict_exists}
 use Rattle.period.specs.Promise.{Outcome, outcome_of, AnalysisOf}
-use Rattle.rates.specs.declared.Rated.{Rated}
+use Rattle.rates.specs.Rate.{Rated}
 use Rattle.rates.specs.Rate.{rate_verdict_exists, rated_of, RateOf}
-use Rattle.simulation.specs.declared.Simulated.{Simulated}
 use Rattle.simulation.specs.Simulation.{delays, Span, NoBlank, FirstBlank, Refused, SimulationOf, no_or_first_blank}
-use Rattle.bids.specs.declared.Bid.{Bid}
+use Rattle.bids.specs.Promise.{Bid}
 use Rattle.bids.specs.declared.Choice.{Choice}
 use Rattle.bids.specs.declared.Choice.TheVariants.{Neither, First, Second}
-use Rattle.bids.specs.declared.Laid.{Laid}
+use Rattle.bids.specs.Promise.{Laid}
 use Rattle.bids.specs.Promise.{refused_bid, judged_bid, BidOf, choice_of, LaidOf, File, Handed, BetterOf}
 use Rattle.words.specs.Lines.{refused_line_of}
 use Rattle.text.specs.Text.{verdict_text, FileText}
@@ -48,7 +47,7 @@ use Rattle.demands.specs.Timed.{timed_exists}
 -- ------------------------------------------------------------------------------------------------------------------------------- tables and files
 
 -- THE CHECK OF A TABLE
-pub judged_exists : (t : Table) → (x : Checked) × Judged t x
+pub judged_exists : (t : Table) → (x : Told) × Judged t x
 judged_exists t =
     ⊎_elim (λ w. (record { refusal = 0; place = 0 }, inl (w, refl, refl))) (λ b. (record { refusal = 3; place = b.0 }, inr (b.1, refl))) (within_or_first_bad t)
 
@@ -106,16 +105,16 @@ first_blank_unique t q r a b =
 
 module _ (t : Table) (N : ℕ) (out₀ : List ℕ) where
   abbrev SomeOutcome : Type 0
-  SomeOutcome = (r : Simulated) × (out : List ℕ) × SimulationOf t N out₀ r out
+  SomeOutcome = (r : Told) × (out : List ℕ) × SimulationOf t N out₀ r out
 
-  abbrev refused_by : ℕ → ℕ → Simulated
+  abbrev refused_by : ℕ → ℕ → Told
   refused_by f p = record { refusal = f; place = p }
 
   refuses : (f p q : ℕ) → p ≡ q → Refused f q out₀ (refused_by f p) out₀
   refuses f p q e = record { number = refl; place = e; kept = refl }
 
   -- A SIMULATION: each of the six cases shuts out the other five
-  pub simulation_exists : (r : Simulated) × (out : List ℕ) × SimulationOf t N out₀ r out
+  pub simulation_exists : (r : Told) × (out : List ℕ) × SimulationOf t N out₀ r out
   simulation_exists = ⊎_elim within (λ k. bad k.0 k.1) (within_or_first_bad t)
     where
       bad : (k : ℕ) → FirstBad t k → SomeOutcome

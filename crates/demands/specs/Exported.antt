@@ -17,15 +17,15 @@ use Rattle.std.proofs.Math.Logic.{by_cases}
 use Rattle.std.proofs.Math.Decide.{dec_lt}
 use Rattle.sevens.specs.Sevens.{number_of, refused}
 use Rattle.table.specs.declared.Table.{Table}
-use Rattle.rates.specs.declared.Rated.{Rated}
-use Rattle.rulefile.specs.declared.Written.{Written}
-use Rattle.simulation.specs.declared.Simulated.{Simulated}
+use Rattle.rates.specs.Rate.{Rated}
+use Rattle.rulefile.specs.File.{Written}
+use Rattle.refusals.specs.Number.{Told}
 use Rattle.rulefile.specs.File.{groups, refused_write, written_as, Writes}
 use Rattle.period.specs.Promise.{Outcome, outcome, refused_analysis, AnalysisOf}
 use Rattle.rates.specs.Rate.{refused_rate, RateOf}
 use Rattle.simulation.specs.Simulation.{SimulationOf}
 use Rattle.bids.specs.Promise.{File}
-use Rattle.handed.specs.declared.Handed.{Handed}
+use Rattle.handed.specs.Columns.{Handed}
 use Rattle.cperiod.specs.declared.PeriodAnalysis.{PeriodAnalysis}
 use Rattle.cperiod.specs.declared.PeriodRate.{PeriodRate}
 use Rattle.cperiod.specs.declared.PeriodCount.{PeriodCount}
@@ -109,7 +109,7 @@ writing_from_refused h out r after x l = (subst⁻¹ (λ (z : PeriodCount). z �
 
 pub simulation_from_exists : (h : Handed) (N : ℕ) (out : List ℕ) → (r : PeriodStatus) × (after : List ℕ) × SimulationFrom h N out r after
 simulation_from_exists h N out =
-    let ((s, after), x) = asked_exists h (λ f p (z : Simulated × List ℕ). (z.0 ≡ unsimulated f p) × (z.1 ≡ out)) (λ t z. SimulationOf t N out z.0 z.1)
+    let ((s, after), x) = asked_exists h (λ f p (z : Told × List ℕ). (z.0 ≡ unsimulated f p) × (z.1 ≡ out)) (λ t z. SimulationOf t N out z.0 z.1)
     (λ f p. ((unsimulated f p, out), (refl, refl))) (λ t. let (s, a, y) = simulation_exists t N out in ((s, a), y)) in
     (flat_status s, after, record { simulated = s; result = refl; asked = x })
 

@@ -18,8 +18,8 @@ use Rattle.table.specs.declared.Table.{Table}
 use Rattle.table.specs.Limits.{min_occurrences, max_occurrences}
 use Rattle.table.specs.Fields.{Within, within_or_first_bad}
 use Rattle.table.specs.Meaning.{shape_of, ranges_of, within_fits}
-use Rattle.rates.specs.declared.Rated.{Rated}
-use Rattle.simulation.specs.declared.Simulated.{Simulated}
+use Rattle.rates.specs.Rate.{Rated}
+use Rattle.refusals.specs.Number.{Told}
 use Rattle.engine.specs.Verdict.{Verdict, outside, knotted, flat, wide, found, Judges}
 use Rattle.period.specs.Promise.{pick, Outcome, outcome, refused_analysis, answered_analysis, into, judged_outcome, is_outside, outcome_of, AnalysisOf}
 use Rattle.rates.specs.Rate.{RateVerdict, bad_field, no_name, knot_at, unreached, too_wide, rated, JudgesRate, answered_rate, rated_of, RateOf}
@@ -104,10 +104,10 @@ rate_answered t v r is none = at is.verdict is.judged is.result
 -- ---------------------------------------------------------------------------------------------------------------------------------- a simulation
 
 -- refused, or the times of a table within its limits whose loops all turn
-abbrev pub Case : Table → ℕ → List ℕ → Simulated → List ℕ → Type 0
+abbrev pub Case : Table → ℕ → List ℕ → Told → List ℕ → Type 0
 Case t N out₀ r out = ((f : ℕ) × (p : ℕ) × (0 < f) × Refused f p out₀ r out) ⊎ (Within t × Live (shape_of t) × Answered t N out₀ r out)
 
-pub simulation_cases : (t : Table) (N : ℕ) (out₀ : List ℕ) (r : Simulated) (out : List ℕ) → SimulationOf t N out₀ r out → Case t N out₀ r out
+pub simulation_cases : (t : Table) (N : ℕ) (out₀ : List ℕ) (r : Told) (out : List ℕ) → SimulationOf t N out₀ r out → Case t N out₀ r out
 simulation_cases t N out₀ r out x = ⊎_elim within (λ k. inl (3, k.0, omega arith, x.outside k.0 k.1)) (within_or_first_bad t)
   where
     roomy : Within t → Span N → NoBlank t → Case t N out₀ r out

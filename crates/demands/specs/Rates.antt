@@ -29,7 +29,7 @@ use Rattle.table.specs.Fields.{Within, within_not_bad}
 use Rattle.table.specs.Meaning.{shape_of, ranges_of, within_fits, within_offsets, within_delays}
 use Rattle.engine.specs.Verdict.{proper}
 use Rattle.rates.specs.Rate.{RateVerdict, bad_field, no_name, knot_at, unreached, too_wide, rated, JudgesRate, rate_never_wide, rate_verdict_exists, rate_verdict_unique, refused_rate, answered_rate, rated_of, RateOf}
-use Rattle.rates.specs.declared.Rated.{Rated}
+use Rattle.rates.specs.Rate.{Rated}
 use Rattle.demands.specs.Filled.{Filled, EndsInward, ends_inward, bad_filled, within_filled, shape_filled, narrows_filled}
 
 -- ------------------------------------------------------------------------------------------------------------------------------- refused exactly when

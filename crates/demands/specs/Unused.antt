@@ -21,14 +21,13 @@ use Rattle.table.specs.declared.Delay.{Delay}
 use Rattle.table.specs.declared.Delay.TheVariants.{Known, Unknown}
 use Rattle.table.specs.declared.Rule.{Rule}
 use Rattle.table.specs.declared.Table.{Table}
-use Rattle.table.specs.declared.Checked.{Checked}
+use Rattle.refusals.specs.Number.{Told}
 use Rattle.table.specs.Limits.{max_delay}
 use Rattle.table.specs.Form.{unused_rule, rule_of, SameRules}
 use Rattle.table.specs.Fields.{Within, FirstBad, Judged}
 use Rattle.table.specs.Meaning.{used, delay_meant, shape_of, ranges_of, Blank, used_rule}
-use Rattle.rulefile.specs.declared.Written.{Written}
-use Rattle.rates.specs.declared.Rated.{Rated}
-use Rattle.simulation.specs.declared.Simulated.{Simulated}
+use Rattle.rulefile.specs.File.{Written}
+use Rattle.rates.specs.Rate.{Rated}
 use Rattle.engine.specs.Verdict.{Verdict, outside, knotted, flat, wide, found, WideAt, Judges}
 use Rattle.rulefile.specs.File.{rule_bytes, rules_bytes, file_of, refused_write, written_as, Writes}
 use Rattle.period.specs.Promise.{Outcome, outcome_of, AnalysisOf}
@@ -134,7 +133,7 @@ module _ (t u : Table) (s : SameRules t u) where
   back = same_back t u s
 
   -- THE CHECK OF A TABLE
-  pub check_unused : (x : Checked) → Judged t x → Judged u x
+  pub check_unused : (x : Told) → Judged t x → Judged u x
   check_unused x (inl a) = inl (within_same t u s a.0, a.1, a.2)
   check_unused x (inr a) = inr (bad_same t u s x.place a.0, a.1)
 
@@ -158,7 +157,7 @@ module _ (t u : Table) (s : SameRules t u) where
       record { verdict = x.verdict; judged = rate_judges_same t u s v x.verdict x.judged; result = x.result ∙ ap (λ n. rated_of n x.verdict) (sym s.same_n) }
 
   -- A SIMULATION
-  pub simulation_unused : (N : ℕ) (out₀ : List ℕ) (r : Simulated) (out : List ℕ) → SimulationOf t N out₀ r out → SimulationOf u N out₀ r out
+  pub simulation_unused : (N : ℕ) (out₀ : List ℕ) (r : Told) (out : List ℕ) → SimulationOf t N out₀ r out → SimulationOf u N out₀ r out
   simulation_unused N out₀ r out x =
       record {
         outside = λ k b. x.outside k (bad_same u t back k b);

@@ -42,14 +42,14 @@ use Rattle.table.specs.Form.{unused_rule, rule_of, Unused, SameRules, all_unused
 use Rattle.table.specs.Fields.{RuleWithin, Within}
 use Rattle.table.specs.Meaning.{shape_of, ranges_of, within_fits}
 use Rattle.rulefile.specs.declared.FileRead.{FileRead}
-use Rattle.rulefile.specs.declared.Written.{Written}
+use Rattle.rulefile.specs.File.{Written}
 use Rattle.rulefile.specs.File.{rule_bytes, rules_bytes, file_of, read_of, accepted_read, written_as, Writes}
 use Rattle.rulefile.specs.RoundTrip.{file_accepted}
 use Rattle.engine.specs.Verdict.{Verdict, found, Judges, proper, never_wide_at, verdict_unique}
 use Rattle.period.specs.Promise.{Outcome, outcome, end_of, refused_analysis, outcome_of, AnalysisOf}
-use Rattle.rates.specs.declared.Rated.{Rated}
+use Rattle.rates.specs.Rate.{Rated}
 use Rattle.rates.specs.Rate.{RateVerdict, rated, JudgesRate, rate_never_wide, rate_verdict_unique, answered_rate, rated_of, RateOf}
-use Rattle.simulation.specs.declared.Simulated.{Simulated}
+use Rattle.refusals.specs.Number.{Told}
 use Rattle.simulation.specs.Simulation.{delays, NoBlank, SimulationOf}
 use Rattle.text.specs.Text.{verdict_text, TableText, ReadText, FileText}
 use Rattle.laps.specs.Lists.{lowest_one}
@@ -325,12 +325,12 @@ p1_times =
     (subst (λ (S : Shape). Timed S (laps.ranges_of lap_1.rules).least 3 2 zeros (0 ∷ 3 ∷ 7 ∷ 10 ∷ 14 ∷ 17 ∷ [])) p1_shape line_1.1)
 
 -- THREE OCCURRENCES OF P1, simulated
-pub simulation_p1 : (r : Simulated) (out : List ℕ) → SimulationOf P1 3 zeros r out → (r.refusal ≡ 0) × (out ≡ 0 ∷ 3 ∷ 7 ∷ 10 ∷ 14 ∷ 17 ∷ [])
+pub simulation_p1 : (r : Told) (out : List ℕ) → SimulationOf P1 3 zeros r out → (r.refusal ≡ 0) × (out ≡ 0 ∷ 3 ∷ 7 ∷ 10 ∷ 14 ∷ 17 ∷ [])
 simulation_p1 r out x =
     let a = x.simulated p1_within (omega arith, omega arith) p1_unblank (omega arith) p1_live in
     (a.number, timed_unique (shape_of P1) (delays P1) 3 2 (within_fits P1 p1_within) p1_live (omega arith) zeros out (0 ∷ 3 ∷ 7 ∷ 10 ∷ 14 ∷ 17 ∷ []) a.times p1_times)
 
-pub times_p1 : (r : Simulated) (out : List ℕ) → SimulationOf P1 3 zeros r out → SimulatedTimes P1 delays_p1 3 out
+pub times_p1 : (r : Told) (out : List ℕ) → SimulationOf P1 3 zeros r out → SimulatedTimes P1 delays_p1 3 out
 times_p1 r out x = simulation_times P1 delays_p1 p1_known 3 zeros r out x (simulation_p1 r out x).0
 
 -- ------------------------------------------------------------------------------------------------------------------------------------ the files

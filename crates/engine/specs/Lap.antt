@@ -3,10 +3,11 @@
 --   refused_lap f p     == refused with number f at place p: all else 0
 --   end_of p q loop     == one end and its loop, padded with zeros to 256 places
 --   answered_lap a      == the answer a, its schedule padded likewise
+--   told_lap r          == what is told by what the engine hands back
 --   lap_of v            == what is handed back for the verdict v: numbers of refusal are the paper's
 --   LapOf t r          == THE PROMISE of `lap`; lap_unique: it has one outcome
 --   Sided, LapIn       == what the parts of it promise on columns
-use Rattle.std.specs.Prelude.{◌≡◌, refl, Bool, false, ◌≢◌, List, [], ◌∷◌, ◌++◌, ℕ, zero, suc, ◌+◌, ◌-◌, ◌≤◌, ◌<◌, length, get_or, set, take, replicate}
+use Rattle.std.specs.Prelude.{Option, Result, Ok, Err, ◌≡◌, refl, Bool, false, ◌≢◌, List, [], ◌∷◌, ◌++◌, ℕ, zero, suc, ◌+◌, ◌-◌, ◌≤◌, ◌<◌, length, get_or, set, take, replicate}
 use Rattle.std.proofs.Common.{sym, ap, ◌∙◌, subst, arith, add-one, length-take, get_or-take}
 use Rattle.model.specs.Shape.{Shape, Fits}
 use Rattle.model.specs.Loop.{NoLoop, Live}
@@ -28,11 +29,19 @@ use Rattle.table.specs.declared.Table.{Table}
 use Rattle.table.specs.Fields.{Within, FirstBad}
 use Rattle.table.specs.Meaning.{shape_of, ranges_of}
 use Rattle.columns.specs.Columns.{shape, delay_at}
+use Rattle.columns.specs.declared.Columns.{Columns}
+use Rattle.columns.specs.declared.rules.Rules.{Rules}
+use Rattle.columns.specs.declared.rules.Filled.{Filled}
+use Rattle.columns.specs.Views.{of_columns, of_rules, of_filled, delays_of}
+use Rattle.loops.specs.declared.first.Found.{Found}
+use Rattle.loops.specs.Told.{len_of, at_of, rules_of}
 use Rattle.search.specs.Search.{Reached}
 use Rattle.loops.specs.Found.{FoundFirst}
 use Rattle.columns.specs.Lay.{Laid, laid_shape, laid_least, laid_greatest}
 use Rattle.engine.specs.declared.End.{End}
-use Rattle.engine.specs.declared.Lap.{Lap}
+use Rattle.engine.specs.declared.Lap.{Lap as Given}
+use Rattle.refusals.specs.declared.Refusal.{Refusal}
+use Rattle.refusals.specs.Number.{number_of}
 use Rattle.engine.specs.Verdict.{Verdict, outside, knotted, flat, wide, found, Judges, never_wide_at, verdict_unique}
 
 -- zeros up to 256 places
@@ -42,8 +51,22 @@ padded xs = xs ++ replicate (256 - length xs) 0
 abbrev pub end_of : ℕ → ℕ → List ℕ → End
 end_of p q loop = record { p = p; q = q; len = length loop; rules = padded loop }
 
+-- what is told of a table: number 0 and place 0 with its lap, or the number and the place of a refusal, and all else 0
+pub record Lap : Type 0 where
+  pub refusal : ℕ
+  pub place : ℕ
+  pub exact : Bool
+  pub low : End
+  pub high : End
+  pub schedule : List ℕ
+
 abbrev pub refused_lap : ℕ → ℕ → Lap
 refused_lap f p = record { refusal = f; place = p; exact = false; low = end_of 0 0 []; high = end_of 0 0 []; schedule = padded [] }
+
+-- what is told by what the engine hands back
+abbrev pub told_lap : Result Given Refusal → Lap
+told_lap (Ok x) = record { refusal = 0; place = 0; exact = x.exact; low = x.low; high = x.high; schedule = x.schedule }
+told_lap (Err e) = refused_lap (number_of e.why) e.place
 
 abbrev pub answered_lap : Answer → Lap
 answered_lap a =
@@ -167,13 +190,31 @@ pub record LapIn (S : Shape) (K : Ranges) (n : ℕ) (r : Lap) : Type 0 where
   pub judged : JudgesIn S K n verdict
   pub result : r ≡ lap_of verdict
 
+-- what was found of the rules of the columns, and what was measured with one of their two delays, is said of the columns
+pub zero_columns : (c : Columns) (r : Rules) → (r.source.now ≡ c.source) × (r.target.now ≡ c.target) × (r.offset.now ≡ c.offset) → (r.m ≡ c.m) × (r.n ≡ c.n)
+    → (f : Option Found) → FoundFirst (of_rules r) (λ i. get_or r.offset.now i 0 ≡ 0) r.n (len_of f) (at_of f) (rules_of f)
+    → FoundFirst (of_columns c) (λ i. get_or c.offset i 0 ≡ 0) c.n (len_of f) (at_of f) (rules_of f)
+zero_columns c r e z f h = rw (e.0, e.1, e.2, z.0, z.1) at h
+
+pub sided_columns : (c : Columns) (r : Filled) → (r.source.now ≡ c.source) × (r.target.now ≡ c.target) × (r.offset.now ≡ c.offset) → (delay : List ℕ) → r.delay.now ≡ delay
+    → (r.m ≡ c.m) × (r.n ≡ c.n) → (p q len : ℕ) (rules x : List ℕ) → Sided (of_filled r) (delays_of r) r.n p q len rules x → Sided (of_columns c) (delay_at delay) c.n p q len rules x
+sided_columns c r e delay d z p q len rules x h = rw (e.0, e.1, e.2, d, z.0, z.1) at h
+
+pub live_columns : (c : Columns) (r : Filled) → (r.source.now ≡ c.source) × (r.target.now ≡ c.target) × (r.offset.now ≡ c.offset) → (r.m ≡ c.m) × (r.n ≡ c.n)
+    → Live (of_columns c) → Live (of_filled r)
+live_columns c r e z h = rw (e.0, e.1, e.2, z.0) h
+
+pub none_columns : (c : Columns) (r : Filled) → (r.source.now ≡ c.source) × (r.target.now ≡ c.target) × (r.offset.now ≡ c.offset) → (r.m ≡ c.m) × (r.n ≡ c.n)
+    → NoLoop (of_filled r) → NoLoop (of_columns c)
+none_columns c r e z h = rw (e.0, e.1, e.2, z.0) at h
+
 -- the three ways in which the analysis on columns ends
 module _ {S : Shape} {K : Ranges} {n : ℕ} {r : Lap} where
   pub ends_knotted : {len at : ℕ} {rules : List ℕ} → FoundFirst S (λ i. S.offset i ≡ 0) n len at rules → 0 < len → r ≡ refused_lap 5 at → LapIn S K n r
   ends_knotted {at = at} {rules = rules} f b e = record { verdict = knotted at; judged = first_knot S at _ (f.some b); result = e }
 
-  pub ends_flat : {p q len : ℕ} {rules x : List ℕ} → Live S → Sided S K.least n p q len rules x → len ≡ 0 → r ≡ refused_lap 6 0 → LapIn S K n r
-  ends_flat live s z e = record { verdict = flat; judged = (live, s.none z); result = e }
+  pub ends_flat : Live S → NoLoop S → r ≡ refused_lap 6 0 → LapIn S K n r
+  ends_flat live none e = record { verdict = flat; judged = (live, none); result = e }
 
   pub ends_answered : {p q l P Q h : ℕ} {ls xs hs x : List ℕ} {e : Bool} → Proper S K → Live S → Sided S K.least n p q l ls xs → Sided S K.greatest n P Q h hs x → l ≢ 0 → Exact p q P Q e
       → r ≡ answered_lap (answer_of n p q l ls P Q h hs x e) → LapIn S K n r

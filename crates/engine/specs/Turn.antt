@@ -11,23 +11,23 @@ use Rattle.theory.specs.Knot.{knot_unique, knot_not_live, first_knot}
 use Rattle.table.specs.declared.Table.{Table}
 use Rattle.table.specs.Fields.{Within, FirstBad, within_not_bad, first_bad_unique}
 use Rattle.table.specs.Meaning.{shape_of}
-use Rattle.engine.specs.declared.Turned.{Turned}
+use Rattle.refusals.specs.Number.{Told}
 use Rattle.columns.specs.Columns.{shape}
 use Rattle.loops.specs.Found.{FoundFirst}
 use Rattle.columns.specs.Lay.{Laid, laid_shape}
 use Rattle.engine.specs.Lap.{ends_live}
 
 -- one case each
-abbrev pub TurnOf : Table → Turned → Type 0
+abbrev pub TurnOf : Table → Told → Type 0
 TurnOf t r =
     (FirstBad t r.place × (r.refusal ≡ 3))
     ⊎ ((Within t × Knot (shape_of t) r.place × (r.refusal ≡ 5)) ⊎ (Within t × Live (shape_of t) × (r.refusal ≡ 0) × (r.place ≡ 0)))
 
-same : (r s : Turned) → r.refusal ≡ s.refusal → r.place ≡ s.place → r ≡ s
+same : (r s : Told) → r.refusal ≡ s.refusal → r.place ≡ s.place → r ≡ s
 same r s e f = ap (λ x. record { refusal = x; place = r.place }) e ∙ ap (λ x. record { refusal = s.refusal; place = x }) f
 
 -- ONLY ONE OUTCOME
-pub turn_unique : (t : Table) (r s : Turned) → TurnOf t r → TurnOf t s → r ≡ s
+pub turn_unique : (t : Table) (r s : Told) → TurnOf t r → TurnOf t s → r ≡ s
 turn_unique t r s (inl a) (inl b) = same r s (a.1 ∙ sym b.1) (first_bad_unique t r.place s.place a.0 b.0)
 turn_unique t r s (inl a) (inr (inl b)) = absurd (within_not_bad t r.place b.0 a.0)
 turn_unique t r s (inl a) (inr (inr b)) = absurd (within_not_bad t r.place b.0 a.0)

@@ -7,24 +7,27 @@
 --   filled_to c t r         t with the first r rules of the columns in their places
 --   table_from n c            the table of n transitions and the rules of the columns
 --   short_of, short c       some column has fewer places than that of the sources
+--   Handed                  a table handed in, or the number and place of its refusal
 --   refused_table, given_table      a table handed in that is refused, and one that is not
+--   told_handed x           the same, from the code's own result x
 --   columns_of_table n c          what is handed in by columns: refused 8 where one is too short
 --   bytes_of s              what is handed in by the bytes s of a rule file
 --   delay_in_of d, known_in_of d   the two numbers of a delay
 --   put_to f xs r           xs with the first r values of f in its lowest places
 --   columns_from t c r      the columns c with the first r rules of t in their lowest places
 --   read_into h c           what reading a table into columns hands back, with the columns after it
-use Rattle.std.specs.Prelude.{ℕ, zero, suc, Bool, true, List, ltb, length, get_or, set}
+use Rattle.std.specs.Prelude.{ℕ, zero, suc, Bool, true, List, Result, Ok, Err, ltb, length, get_or, set}
 use Rattle.table.specs.Limits.{max_m}
 use Rattle.table.specs.Form.{empty_table, sized, with_rule, rule_of}
 use Rattle.table.specs.declared.Delay.{Delay}
 use Rattle.table.specs.declared.Delay.TheVariants.{Known, Unknown}
 use Rattle.table.specs.declared.Rule.{Rule}
 use Rattle.table.specs.declared.Table.{Table}
+use Rattle.refusals.specs.declared.Refusal.{Refusal}
+use Rattle.refusals.specs.Number.{number_of}
 use Rattle.sevens.specs.Sevens.{pick}
 use Rattle.rulefile.specs.declared.FileRead.{FileRead}
 use Rattle.rulefile.specs.File.{read_of}
-use Rattle.handed.specs.declared.Handed.{Handed}
 use Rattle.handed.specs.declared.PeriodTable.{PeriodTable}
 
 -- the five columns, one place for each rule
@@ -71,12 +74,23 @@ short_of m t o d k = pick (ltb t m) true (pick (ltb o m) true (pick (ltb d m) tr
 abbrev pub short : Columns → Bool
 short c = short_of (length c.source) (length c.target) (length c.offset) (length c.delay) (length c.known)
 
+-- a table handed in: a refusal, its place and the empty table; or 0, 0 and the table
+pub record Handed : Type 0 where
+  pub refusal : ℕ
+  pub place : ℕ
+  pub table : Table
+
 -- a table that is refused before anything is asked of it, and one that is not
 abbrev pub refused_table : ℕ → ℕ → Handed
 refused_table number place = record { refusal = number; place = place; table = empty_table }
 
 abbrev pub given_table : Table → Handed
 given_table t = record { refusal = 0; place = 0; table = t }
+
+-- what the code hands back of a table handed in
+abbrev pub told_handed : Result Table Refusal → Handed
+told_handed (Ok t) = given_table t
+told_handed (Err e) = refused_table (number_of e.why) e.place
 
 -- columns of which one is too short are refused 8 with the length needed
 unfoldable pub columns_of_table : ℕ → Columns → Handed

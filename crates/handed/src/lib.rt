@@ -1,25 +1,17 @@
 // A table handed in as columns of numbers or as the bytes of a rule file, and handed out as columns: what the calls for C are asked about.
 #![tactic(auto)]
 
-ghost use Rattle.std.specs.Prelude.{◌≡◌, ◌≤◌, length};
+ghost use Rattle.std.specs.Prelude.{◌≡◌, ◌≤◌, ◌<◌, length, IfOk};
 ghost use Rattle.table.specs.Limits.{max_m};
-ghost use Rattle.handed.specs.Columns.{columns, rule_from_of, stored, table_from, short_of, refused_table, columns_of_table, bytes_of, delay_in_of, known_in_of, columns_from, refused_columns, read_into, read_as};
+ghost use Rattle.refusals.specs.Number.{number_of};
+ghost use Rattle.handed.specs.Columns.{columns, rule_in, table_from, short_of, told_handed, columns_of_table, bytes_of, delay_in_of, known_in_of, columns_from, refused_columns, read_into, read_as};
 
+use refusals::{Refusal, Why};
 use table::{Delay, Rule, Table};
 
-const ROOM: u32 = 8;
-
-// A table handed in: a refusal, its place and the empty table; or 0, 0 and the table.
-#[derive(Clone, Copy)]
-pub struct Handed {
-    pub refusal: u32,
-    pub place: usize,
-    pub table: Table,
-}
-
-// Refused: number and place, and 0, 0. Else 0, 0, and the counts of transitions and rules. C gets it as it is.
+// Refused: number and place, and 0, 0. Else 0, 0, and the counts of transitions and rules. It is no `Result`: C gets it as it is, from `period_read`.
 #[repr(C)]
-#[derive(Clone, Copy)]
+#[derive(Clone, Copy, PartialEq, Eq, Debug)]
 pub struct PeriodTable {
     pub refusal: u32,
     pub place: usize,
@@ -27,88 +19,56 @@ pub struct PeriodTable {
     pub m: usize,
 }
 
-fn rule_from(source: u16, target: u16, offset: u16, delay: u32, known: u8) -> Rule
-    ensures { result ≡ rule_from_of source target offset delay known }
-{
-    if known == 0 {
-        return Rule {
-            source: source,
-            target: target,
-            offset: offset,
-            delay: Delay::Unknown,
-        };
-    }
-    Rule {
-        source: source,
-        target: target,
-        offset: offset,
-        delay: Delay::Known(delay),
-    }
+// The columns that a table is made of, where none has fewer places than that of the sources.
+#[derive(Clone, Copy)]
+struct Lent<'a> {
+    source: &'a [u16],
+    target: &'a [u16],
+    offset: &'a [u16],
+    delay: &'a [u32],
+    known: &'a [u8],
+    ghost whole: { (length source.now ≤ length target.now) × (length source.now ≤ length offset.now) × (length source.now ≤ length delay.now) × (length source.now ≤ length known.now) },
 }
 
-// How many of m rules a table has places for.
-fn places_for(m: usize) -> usize
-    ensures { result ≡ stored m }
-{
-    if Table::MAX_M < m {
-        return Table::MAX_M;
+impl Lent<'_> {
+    fn rule(&self, r: usize) -> Rule
+        requires { r < length self.now.source.now }
+        ensures { result ≡ rule_in (columns self.now.source.now self.now.target.now self.now.offset.now self.now.delay.now self.now.known.now) r }
+    {
+        Rule {
+            source: self.source[r],
+            target: self.target[r],
+            offset: self.offset[r],
+            delay: if self.known[r] == 0 {
+                Delay::Unknown
+            } else {
+                Delay::Known(self.delay[r])
+            },
+        }
     }
-    m
-}
 
-// The table of n transitions and the rules of the columns.
-fn table_of(
-    n: usize,
-    source: &[u16],
-    target: &[u16],
-    offset: &[u16],
-    delay: &[u32],
-    known: &[u8],
-) -> Table
-    requires { (length source.now ≤ length target.now) × (length source.now ≤ length offset.now) × (length source.now ≤ length delay.now) × (length source.now ≤ length known.now) }
-    ensures { result ≡ table_from n (columns source.now target.now offset.now delay.now known.now) }
-{
-    let mut t = Table::empty();
-    t.n = n;
-    t.m = source.len();
-    let count = places_for(source.len());
-    let mut r = 0;
-    while r < count {
-        let rule = rule_from(source[r], target[r], offset[r], delay[r], known[r]);
-        t.rules[r] = rule;
-        r += 1;
+    // The table of n transitions and the rules of the columns.
+    fn table(&self, n: usize) -> Table
+        ensures { result ≡ table_from n (columns self.now.source.now self.now.target.now self.now.offset.now self.now.delay.now self.now.known.now) }
+    {
+        let mut t = Table::empty();
+        t.n = n;
+        t.m = self.source.len();
+        for r in 0..self.source.len().min(Table::MAX_M) {
+            t.rules[r] = self.rule(r);
+        }
+        t
     }
-    t
 }
 
 // Whether some column has fewer than m places.
 fn short(m: usize, target: usize, offset: usize, delay: usize, known: usize) -> bool
     ensures { result ≡ short_of m target offset delay known }
 {
-    if target < m {
-        return true;
-    }
-    if offset < m {
-        return true;
-    }
-    if delay < m {
-        return true;
-    }
-    known < m
+    target < m || offset < m || delay < m || known < m
 }
 
-fn not_handed(refusal: u32, place: usize) -> Handed
-    ensures { result ≡ refused_table refusal place }
-{
-    let none = Table::empty();
-    Handed {
-        refusal: refusal,
-        place: place,
-        table: none,
-    }
-}
-
-// What is handed in by columns.
+// What is handed in by columns: a table, or why it is refused. The columns stand apart here and in `read`, as the calls for C have them.
 pub fn from_columns(
     n: usize,
     source: &[u16],
@@ -116,8 +76,8 @@ pub fn from_columns(
     offset: &[u16],
     delay: &[u32],
     known: &[u8],
-) -> Handed
-    ensures { result ≡ columns_of_table n (columns source.now target.now offset.now delay.now known.now) }
+) -> Result<Table, Refusal>
+    ensures { told_handed result ≡ columns_of_table n (columns source.now target.now offset.now delay.now known.now) }
 {
     if short(
         source.len(),
@@ -126,27 +86,23 @@ pub fn from_columns(
         delay.len(),
         known.len(),
     ) {
-        return not_handed(ROOM, source.len());
+        return Err(Why::Room.at(source.len()));
     }
-    let t = table_of(n, source, target, offset, delay, known);
-    Handed {
-        refusal: 0,
-        place: 0,
-        table: t,
-    }
+    let columns = Lent {
+        source,
+        target,
+        offset,
+        delay,
+        known,
+    };
+    Ok(columns.table(n))
 }
 
 // What is handed in by the bytes of a file; a table that is read has no more rules than places.
-pub fn from_file(bytes: &[u8]) -> Handed
-    ensures { (result ≡ bytes_of bytes.now) × (result.refusal ≡ 0 → result.table.m ≤ max_m) }
+pub fn from_file(bytes: &[u8]) -> Result<Table, Refusal>
+    ensures { (told_handed result ≡ bytes_of bytes.now) × (IfOk result (λ t. t.m ≤ max_m)) }
 {
-    let x = rulefile::read(bytes);
-    let t = x.table;
-    Handed {
-        refusal: x.refusal,
-        place: x.place,
-        table: t,
-    }
+    rulefile::table(bytes)
 }
 
 fn delay_in(delay: Delay) -> u32
@@ -163,77 +119,40 @@ fn known_in(delay: Delay) -> u8
 {
     match delay {
         Delay::Unknown => 0,
-        Delay::Known(d) => 1,
+        Delay::Known(_) => 1,
     }
 }
 
 // The rules of a table into the lowest places of the columns; the rest of these stays.
 fn put_columns(
-    t: Table,
+    t: &Table,
     source: &mut [u16],
     target: &mut [u16],
     offset: &mut [u16],
     delay: &mut [u32],
     known: &mut [u8],
 )
-    requires { (t.m ≤ max_m) × (t.m ≤ length source.old) × (t.m ≤ length target.old) × (t.m ≤ length offset.old) × (t.m ≤ length delay.old) × (t.m ≤ length known.old) }
-    ensures { columns source.new target.new offset.new delay.new known.new ≡ columns_from t (columns source.old target.old offset.old delay.old known.old) t.m }
+    requires { (t.now.m ≤ max_m) × (t.now.m ≤ length source.old) × (t.now.m ≤ length target.old) × (t.now.m ≤ length offset.old) × (t.now.m ≤ length delay.old) × (t.now.m ≤ length known.old) }
+    ensures { columns source.new target.new offset.new delay.new known.new ≡ columns_from t.now (columns source.old target.old offset.old delay.old known.old) t.now.m }
 {
-    let m = t.m;
-    let mut r = 0;
-    while r < m {
+    for r in 0..t.m {
         let rule = t.rules[r];
-        let d = rule.delay;
         source[r] = rule.source;
         target[r] = rule.target;
         offset[r] = rule.offset;
-        delay[r] = delay_in(d);
-        known[r] = known_in(d);
-        r += 1;
+        delay[r] = delay_in(rule.delay);
+        known[r] = known_in(rule.delay);
     }
 }
 
-fn unread(refusal: u32, place: usize) -> PeriodTable
-    ensures { result ≡ refused_columns refusal place }
+fn unread(refused: Refusal) -> PeriodTable
+    ensures { result ≡ refused_columns (number_of refused.why) refused.place }
 {
     PeriodTable {
-        refusal: refusal,
-        place: place,
+        refusal: refused.why.number(),
+        place: refused.place,
         n: 0,
         m: 0,
-    }
-}
-
-// The columns of what was handed in.
-fn columns_of(
-    handed: Handed,
-    source: &mut [u16],
-    target: &mut [u16],
-    offset: &mut [u16],
-    delay: &mut [u32],
-    known: &mut [u8],
-) -> PeriodTable
-    requires { handed.refusal ≡ 0 → handed.table.m ≤ max_m }
-    ensures { read_into handed (columns source.old target.old offset.old delay.old known.old) ≡ read_as result (columns source.new target.new offset.new delay.new known.new) }
-{
-    if 0 < handed.refusal {
-        return unread(handed.refusal, handed.place);
-    }
-    let t = handed.table;
-    let n = t.n;
-    let m = t.m;
-    if source.len() < m {
-        return unread(ROOM, m);
-    }
-    if short(m, target.len(), offset.len(), delay.len(), known.len()) {
-        return unread(ROOM, m);
-    }
-    put_columns(t, source, target, offset, delay, known);
-    PeriodTable {
-        refusal: 0,
-        place: 0,
-        n: n,
-        m: m,
     }
 }
 
@@ -248,6 +167,18 @@ pub fn read(
 ) -> PeriodTable
     ensures { read_into (bytes_of bytes.now) (columns source.old target.old offset.old delay.old known.old) ≡ read_as result (columns source.new target.new offset.new delay.new known.new) }
 {
-    let handed = from_file(bytes);
-    columns_of(handed, source, target, offset, delay, known)
+    let t = match from_file(bytes) {
+        Ok(t) => t,
+        Err(refused) => return unread(refused),
+    };
+    if source.len() < t.m || short(t.m, target.len(), offset.len(), delay.len(), known.len()) {
+        return unread(Why::Room.at(t.m));
+    }
+    put_columns(&t, source, target, offset, delay, known);
+    PeriodTable {
+        refusal: 0,
+        place: 0,
+        n: t.n,
+        m: t.m,
+    }
 }

@@ -7,8 +7,9 @@
 --   Looped, FoundIn T list n len at rules   == the same of the listed rules alone, each written by its number in the list
 --   NoneBelow T v                   == no loop starts below v
 --   none_struck, none_far           nor at v, where v was struck or no walk comes back to it
---   Ready, ready                    == what is asked before a walk is followed, and that it holds
+--   Ready, ready, ready_named       == what is asked before a walk is followed, and that it holds; each rule of it stands in the list
 --   found_here, found_none          a loop was found; none was
+--   FoundListed, found_listed       the same of a list, whose columns are gathered for it: the first loop of that kind
 --   found_kind                      the first loop of the listed rules is the first of their kind
 use Rattle.std.specs.Prelude.{◌≡◌, refl, ◌≢◌, length, get_or, set}
 use Rattle.std.proofs.Common.{sym, ◌∙◌, add-one}
@@ -124,6 +125,9 @@ module _ (source target : List ℕ) (len n v : ℕ) (d next : List ℕ) (limits 
         steps = λ u b. let r = ways.below some_rules u in (omega (arith, r, limits.few_rules), omega (arith, limits.fits (get_or next u 0) r, limits.few_transitions));
       }
 
+  pub ready_named : (u : ℕ) → get_or next u 0 < len
+  ready_named = ways.below some_rules
+
   pub found_here : (list rules : List ℕ) → NoneBelow (plain source target len) v → take (get_or d v 0) rules ≡ numbers list (followed target next v (get_or d v 0))
       → FoundIn (plain source target len) list n (get_or d v 0) v rules
   found_here list rules none names =
@@ -176,3 +180,16 @@ found_kind source target offset list from to m size gf gt A h n len at rules f =
       none = λ e. picked_none A S T (λ j. get_or list j 0) p (f.none e);
       some = λ l. let g = f.some l in rw g.names (picked_first A S T (λ j. get_or list j 0) p at g.places g.first);
     }
+
+-- the first loop of the rules of a list, whose columns were gathered for it
+pub record FoundListed (source target list : List ℕ) (n len at : ℕ) (rules : List ℕ) : Type 0 where
+  pub from : List ℕ
+  pub to : List ℕ
+  pub from_is : Gathered source list (length list) from
+  pub to_is : Gathered target list (length list) to
+  pub found : FoundIn (plain from to (length list)) list n len at rules
+
+pub found_listed : (source target offset list : List ℕ) (m n len at : ℕ) (rules : List ℕ) (A : ℕ → Type 0) → Listed A list (length list) m → FoundListed source target list n len at rules
+    → FoundFirst (shape source target offset m) A n len at rules
+found_listed source target offset list m n len at rules A h f =
+    found_kind source target offset list f.from f.to m (length list) f.from_is f.to_is A h n len at rules f.found

@@ -1,3 +1,4 @@
 pub mod Listed
 pub mod Ways
 pub mod Found
+pub mod Told

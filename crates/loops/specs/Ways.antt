@@ -7,9 +7,9 @@
 --   Steps                       == every step along next stays inside the arrays
 --   followed_first              those are the first shortest walk
 use Rattle.std.specs.Prelude.{◌≡◌, refl, ◌≢◌, List, [], ◌∷◌, length, set, replicate}
-use Rattle.std.proofs.Common.{ap, ◌∙◌, subst, arith, length-set, get_or-set_same, get_or-set_other}
+use Rattle.std.proofs.Common.{ap, ◌∙◌, subst, arith, add-one, length-set, get_or-set_same, get_or-set_other}
 use Rattle.std.proofs.Math.Logic.{by_cases}
-use Prim.Native.Nat.{ℕ, zero, suc, ◌+◌, ◌-◌, ◌≤◌, ◌<◌}
+use Prim.Native.Nat.{ℕ, zero, suc, ◌+◌, ◌≤◌, ◌<◌}
 use Rattle.std.proofs.Math.Decide.{ℕ_discrete}
 use Rattle.std.proofs.Math.ListN.{get_or}
 use Rattle.model.specs.Shape.{Shape}
@@ -42,7 +42,7 @@ module _ (S : Shape) (v : ℕ) (d : List ℕ) where
   low_none (suc k) zero b l = l
   low_none (suc k) (suc x) b l = low_none k x b l
 
-  pub ways_none : Ways S v d (S.rules - 0) (replicate 256 0)
+  pub ways_none : Ways S v d (S.rules) (replicate 256 0)
   ways_none = record { room = refl; below = λ l x. low_none 256 x (S.rules) l; chosen = λ i a b. absurd (omega arith) }
 
   module _ (j : ℕ) (next : List ℕ) (h : Ways S v d (suc j) next) (is_rule : j < S.rules) where
@@ -71,19 +71,13 @@ module _ (S : Shape) (v : ℕ) (d : List ℕ) where
               later : (i : ℕ) → j ≤ i → S.source i ≢ S.source j → suc j ≤ i
               later i a n = by_cases (ℕ_discrete i j) (λ e. absurd (n (ap (S.source) e))) (λ m. omega arith)
 
-  -- one turn of the loop, which goes down: at turn i comes rule j, the last of those not looked at
-  module _ (i j s t : ℕ) (next : List ℕ) (h : Ways S v d (S.rules - i) next) (more : i < S.rules) (turn : j ≡ S.rules - 1 - i) (es : s ≡ S.source j) (et : t ≡ S.target j) where
-    last : Ways S v d (suc j) next
-    last = let e : suc j ≡ S.rules - i = omega arith in rw e h
+  -- one turn of the loop, which goes down: rule j is the last of those not looked at
+  module _ (j s t : ℕ) (next : List ℕ) (h : Ways S v d (j + 1) next) (is_rule : j < S.rules) (es : s ≡ S.source j) (et : t ≡ S.target j) where
+    pub ways_passed : ¬ (far v d t + 1 ≡ get_or d s 0) → Ways S v d j next
+    ways_passed n = ways_skip j next (rw add-one at h) is_rule (rw (es, et) at n)
 
-    down : {xs : List ℕ} → Ways S v d j xs → Ways S v d (S.rules - (i + 1)) xs
-    down w = let e : S.rules - (i + 1) ≡ j = omega arith in rw e w
-
-    pub ways_passed : ¬ (far v d t + 1 ≡ get_or d s 0) → Ways S v d (S.rules - (i + 1)) next
-    ways_passed n = down (ways_skip j next last (omega arith) (rw (es, et) at n))
-
-    pub ways_led : (x : ℕ) → x ≡ j → s < 256 → far v d t + 1 ≡ get_or d s 0 → Ways S v d (S.rules - (i + 1)) (set next s x)
-    ways_led x ex b l = rw (ex, es) (down (ways_set j next last (omega arith) (rw es at b) (rw (es, et) at l)))
+    pub ways_led : s < 256 → far v d t + 1 ≡ get_or d s 0 → Ways S v d j (set next s j)
+    ways_led b l = rw es (ways_set j next (rw add-one at h) is_rule (rw es at b) (rw (es, et) at l))
 
 -- the k rules met from u on
 unfoldable pub followed : List ℕ → List ℕ → ℕ → ℕ → List ℕ

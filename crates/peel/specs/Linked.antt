@@ -5,6 +5,7 @@
 --                                    passed over where it is Alike to the one in the list after it
 --   NoneAlike q r                 == no two rules are: none is passed over
 --   Points column len v p         == p is 0, or 1 more than a rule at v
+--   points_most                   no rule is numbered higher than there are rules
 --   points_first, points_last     the list of v begins with the last rule at v
 --   points_rule, points_next, points_all   a step along it
 --   linked_none, linked_last, linked_past   the loop that links them: at first; a rule after the last, or in its place
@@ -43,6 +44,10 @@ linked_none column =
 -- p is 0, or 1 more than a rule at v
 abbrev pub Points : List ℕ → ℕ → ℕ → ℕ → Type 0
 Points column len v p = (r : ℕ) → p ≡ suc r → (r < len) × (get_or column r 0 ≡ v)
+
+pub points_most : (column : List ℕ) (len v p : ℕ) → Points column len v p → p ≤ len
+points_most column len v zero h = omega arith
+points_most column len v (suc r) h = omega (arith, (h r refl).0)
 
 module _ {Alike : ℕ → ℕ → Type 0} (column : List ℕ) (len : ℕ) (head next : List ℕ) (linked : Linked Alike column len head next) (v : ℕ) where
   pub points_first : Points column len v (get_or head v 0)

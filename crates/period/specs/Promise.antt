@@ -1,25 +1,36 @@
 -- What `analyse` hands back for the verdict on a table, and leaves in the lent buffers: one definition by cases, in the paper's order.
 --
 --   Outcome                  == what analysis hands back, with the final contents of the three buffers
+--   Analysis, told_analysis r == what is told of what is handed back, in one record
 --   refused_analysis f p      == refused with number f at place p: all else 0
 --   answered_analysis a       == the answer a
 --   outcome_of n v x l h      == the outcome for the verdict v, with n transitions and buffers x, l, h lent: 3, then 8, then 5, 6, 11
 --   AnalysisOf t x l h o     == THE PROMISE of `analyse`
 --
 -- Theorem: analysis_unique (one outcome). The promise of `rate` is that of crate `rates`, `RateOf`.
-use Rattle.std.specs.Prelude.{◌≡◌, Bool, true, false, List, ◌++◌, ℕ, ltb, length, drop}
+use Rattle.std.specs.Prelude.{Result, Ok, Err, ◌≡◌, Bool, true, false, List, ◌++◌, ℕ, ltb, length, drop}
 use Rattle.std.proofs.Common.{sym, ap, ◌∙◌}
 use Rattle.model.specs.Answer.{Answer}
+use Rattle.refusals.specs.declared.Refusal.{Refusal}
+use Rattle.refusals.specs.Number.{number_of}
 use Rattle.table.specs.declared.Table.{Table}
 use Rattle.engine.specs.Verdict.{Verdict, outside, knotted, flat, wide, found, Judges, verdict_unique}
 use Rattle.period.specs.declared.End.{End}
-use Rattle.period.specs.declared.Analysis.{Analysis}
+use Rattle.period.specs.declared.Analysis.{Analysis as Given}
 
 abbrev pub pick : {A : Type 0} → Bool → A → A → A
 pick true a b = a
 pick false a b = b
 
 -- ------------------------------------------------------------------------------------------------------------------------------------ analysis
+
+-- what is told of a table: number 0 and place 0 with its two ends, or the number and the place of a refusal, and all else 0
+pub record Analysis : Type 0 where
+  pub refusal : ℕ
+  pub place : ℕ
+  pub exact : Bool
+  pub low : End
+  pub high : End
 
 pub record Outcome : Type 0 where
   pub result : Analysis
@@ -35,6 +46,11 @@ end_of p q len = record { p = p; q = q; len = len }
 
 abbrev pub refused_analysis : ℕ → ℕ → Analysis
 refused_analysis f p = record { refusal = f; place = p; exact = false; low = end_of 0 0 0; high = end_of 0 0 0 }
+
+-- what is told by what the analysis hands back
+abbrev pub told_analysis : Result Given Refusal → Analysis
+told_analysis (Ok a) = record { refusal = 0; place = 0; exact = a.exact; low = a.low; high = a.high }
+told_analysis (Err e) = refused_analysis (number_of e.why) e.place
 
 abbrev pub answered_analysis : Answer → Analysis
 answered_analysis a =

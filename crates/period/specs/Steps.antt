@@ -10,11 +10,9 @@ use Rattle.theory.specs.Loop.{loop_short}
 use Rattle.table.specs.declared.Table.{Table}
 use Rattle.table.specs.Fields.{Within}
 use Rattle.table.specs.Meaning.{shape_of, within_fits}
-use Rattle.engine.specs.declared.Lap.{Lap}
 use Rattle.engine.specs.Verdict.{Verdict, outside, knotted, flat, wide, found, Judges}
-use Rattle.engine.specs.Lap.{LapOf, lap_of}
-use Rattle.period.specs.declared.Analysis.{Analysis}
-use Rattle.period.specs.Promise.{Outcome, outcome, refused_analysis, judged_outcome, room_for, is_outside, outcome_of, AnalysisOf}
+use Rattle.engine.specs.Lap.{Lap, LapOf, lap_of}
+use Rattle.period.specs.Promise.{Analysis, Outcome, outcome, refused_analysis, judged_outcome, room_for, is_outside, outcome_of, AnalysisOf}
 
 put_one : (i : ℕ) (x out : List ℕ) → i < length x → i < length out → set (take i x ++ drop i out) i (get_or x i 0) ≡ take (suc i) x ++ drop (suc i) out
 put_one zero [] out b c = absurd (omega arith)

@@ -2,9 +2,10 @@
 #![tactic(auto)]
 
 ghost use Rattle.std.specs.Prelude.{◌≡◌, ◌++◌, ◌≤◌, length, take, drop};
-ghost use Rattle.period.specs.Promise.{outcome, refused_analysis, AnalysisOf};
+ghost use Rattle.period.specs.Promise.{end_of, outcome, told_analysis, AnalysisOf};
 // The two ends of a transition's rate: the call of `rates` as it is.
 pub use rates::rate;
+use refusals::{Refusal, Why};
 use table::Table;
 
 // One end: its ratio in lowest terms, and the length of its loop.
@@ -15,101 +16,50 @@ pub struct End {
     pub len: usize,
 }
 
-// Refused: number and place, and all else 0.
+impl From<&engine::End> for End {
+    ghost from_gives = { λ x end. end ≡ end_of x.now.p x.now.q x.now.len };
+
+    fn from(end: &engine::End) -> End {
+        End {
+            p: end.p,
+            q: end.q,
+            len: end.len,
+        }
+    }
+}
+
+// The two ends, and whether they meet.
 #[derive(Clone, Copy)]
 pub struct Analysis {
-    pub refusal: u32,
-    pub place: usize,
     pub exact: bool,
     pub low: End,
     pub high: End,
 }
 
-const RANGE: u32 = 3;
-
-const ROOM: u32 = 8;
-
-fn refused(refusal: u32, place: usize) -> Analysis
-    ensures { result ≡ refused_analysis refusal place }
-{
-    let none = End { p: 0, q: 0, len: 0 };
-    Analysis {
-        refusal: refusal,
-        place: place,
-        exact: false,
-        low: none,
-        high: none,
-    }
-}
-
-// The first n values into the lowest places of a lent buffer; the rest of it stays.
-fn put_values(x: [u64; 256], n: usize, out: &mut [u64])
-    requires { (n ≤ 256) × (n ≤ length out.old) }
-    ensures { out.new ≡ take n x ++ drop n out.old }
-{
-    let mut i = 0;
-    while i < n {
-        out[i] = x[i];
-        i += 1;
-    }
-}
-
-// The same for rule numbers.
-fn put_rules(rules: [u32; 256], n: usize, out: &mut [u32])
-    requires { (n ≤ 256) × (n ≤ length out.old) }
-    ensures { out.new ≡ take n rules ++ drop n out.old }
-{
-    let mut i = 0;
-    while i < n {
-        out[i] = rules[i];
-        i += 1;
-    }
-}
-
-// The two ends, the schedule at the high end and the two loops; or refused 3, 8, 5, 6 or 11, in this order, and no buffer written.
-pub fn analyse(t: Table, schedule: &mut [u64], low: &mut [u32], high: &mut [u32]) -> Analysis
-    ensures { AnalysisOf t schedule.old low.old high.old (outcome result schedule.new low.new high.new) }
+// The two ends, the schedule at the high end and the two loops; or refused RANGE, ROOM, LOOP or FLAT, in this order, and no buffer written.
+pub fn analyse(
+    t: Table,
+    schedule: &mut [u64],
+    low: &mut [u32],
+    high: &mut [u32],
+) -> Result<Analysis, Refusal>
+    ensures { AnalysisOf t schedule.old low.old high.old (outcome (told_analysis result) schedule.new low.new high.new) }
 {
     let n = t.n;
-    let lap = engine::measure(t);
-    if lap.refusal == RANGE {
-        return refused(lap.refusal, lap.place);
-    }
-    if schedule.len() < n {
-        return refused(ROOM, n);
-    }
-    if low.len() < n {
-        return refused(ROOM, n);
-    }
-    if high.len() < n {
-        return refused(ROOM, n);
-    }
-    if 0 < lap.refusal {
-        return refused(lap.refusal, lap.place);
-    }
-    let x = lap.schedule;
-    put_values(x, n, schedule);
-    let least = lap.low;
-    let rules = least.rules;
-    put_rules(rules, least.len, low);
-    let greatest = lap.high;
-    let others = greatest.rules;
-    put_rules(others, greatest.len, high);
-    let below = End {
-        p: least.p,
-        q: least.q,
-        len: least.len,
+    let lap = match engine::measure(t) {
+        Err(e) if e.why == Why::Range => return Err(e),
+        lap => lap,
     };
-    let above = End {
-        p: greatest.p,
-        q: greatest.q,
-        len: greatest.len,
-    };
-    Analysis {
-        refusal: 0,
-        place: 0,
+    if schedule.len() < n || low.len() < n || high.len() < n {
+        return Err(Why::Room.at(n));
+    }
+    let lap = lap?;
+    schedule[..n].copy_from_slice(&lap.schedule[..n]);
+    low[..lap.low.len].copy_from_slice(&lap.low.rules[..lap.low.len]);
+    high[..lap.high.len].copy_from_slice(&lap.high.rules[..lap.high.len]);
+    Ok(Analysis {
         exact: lap.exact,
-        low: below,
-        high: above,
-    }
+        low: End::from(&lap.low),
+        high: End::from(&lap.high),
+    })
 }

@@ -6,17 +6,11 @@ use std::env::Env;
 use std::io::{self, Print};
 use words::Text;
 
-fn write(rt: &impl Print, bytes: &[u8], len: usize) -> io::Result<()> {
-    if len <= bytes.len() {
-        rt.write_all(&bytes[..len])?;
+fn show(rt: &impl Print, line: Text) -> io::Result<()> {
+    if line.len <= line.bytes.len() {
+        rt.write_all(&line.bytes[..line.len])?;
     }
     Ok(())
-}
-
-fn show(rt: &impl Print, line: Text) -> io::Result<()> {
-    let len = line.len;
-    let bytes = line.bytes;
-    write(rt, &bytes[..], len)
 }
 
 fn show_one(rt: &impl Print, file: &[u8], digits: &[u8]) -> io::Result<()> {
@@ -26,14 +20,11 @@ fn show_one(rt: &impl Print, file: &[u8], digits: &[u8]) -> io::Result<()> {
 
 // A file that reading refuses has no transition; its refusal is then that of any rate.
 fn show_all(rt: &impl Print, file: &[u8]) -> io::Result<()> {
-    let all = rates_text::list_rates(file);
-    if all.n == 0 {
-        show(rt, rates_text::rate(file, 0))?;
-    }
-    let mut v = 0;
-    while v < 256 {
-        show(rt, rates_text::group(all, v))?;
-        v += 1;
+    let Ok(all) = rates_text::list_rates(file) else {
+        return show(rt, rates_text::rate(file, 0));
+    };
+    for v in 0..all.n {
+        show(rt, rates_text::group(&all, v))?;
     }
     Ok(())
 }

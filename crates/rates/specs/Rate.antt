@@ -4,13 +4,13 @@
 --                              a sum is too wide; or the range of its rate
 --   JudgesRate t v x        == x is the verdict on the rate of transition v of the table t
 --   refused_rate f p       == refused with number f at place p: all else 0
+--   told_rate r            == what is told by what the crate hands back
 --   rated_of n x            == what is handed back for the verdict x, where n is the table's: numbers of refusal are the paper's
 --   RateOf t v r          == THE PROMISE of `rate`
 --
 -- Theorems: rate_never_wide (refusal 11 never comes), rate_verdict_exists, rate_verdict_unique, rate_unique (one outcome).
-use Rattle.std.specs.Prelude.{◌≡◌, refl, Bool, true, false, ◌≢◌, ◌⊎◌, List, ℕ, ◌≤◌, ◌<◌, get_or, take}
-use Rattle.std.proofs.Common.{sym, ap, ◌∙◌, subst, true≢false, inl, inr, ⊎_elim, arith}
-use Rattle.std.proofs.lemmas.Bool.{false≢true}
+use Rattle.std.specs.Prelude.{◌≡◌, refl, Bool, false, ◌≢◌, ◌⊎◌, List, ℕ, ◌≤◌, ◌<◌, get_or, take, Option, None, Some, Result, Ok, Err}
+use Rattle.std.proofs.Common.{sym, ap, ◌∙◌, subst, inl, inr, ⊎_elim, arith}
 use Rattle.std.proofs.Math.Logic.{by_cases}
 use Rattle.std.proofs.Math.Decide.{dec_lt}
 use Rattle.model.specs.Shape.{Shape, Fits}
@@ -33,8 +33,14 @@ use Rattle.table.specs.declared.Table.{Table}
 use Rattle.table.specs.Limits.{max_offset, max_delay}
 use Rattle.table.specs.Fields.{Within, FirstBad, within_or_first_bad, within_not_bad, first_bad_unique}
 use Rattle.table.specs.Meaning.{shape_of, ranges_of, within_fits, within_offsets, within_delays}
-use Rattle.rates.specs.declared.Rated.{Rated}
-use Rattle.columns.specs.Columns.{shape}
+use Rattle.refusals.specs.declared.Refusal.{Refusal}
+use Rattle.refusals.specs.Number.{number_of}
+use Rattle.engine.specs.declared.Ratio.{Ratio}
+use Rattle.engine.specs.declared.Range.{Range as Given}
+use Rattle.columns.specs.Columns.{shape, delay_at}
+use Rattle.columns.specs.declared.Columns.{Columns}
+use Rattle.columns.specs.declared.rules.Filled.{Filled}
+use Rattle.columns.specs.Views.{of_columns, of_filled, delays_of}
 use Rattle.loops.specs.Found.{FoundFirst}
 use Rattle.columns.specs.Lay.{Laid, laid_shape, laid_least, laid_greatest}
 use Rattle.search.specs.Search.{Reached}
@@ -58,8 +64,21 @@ JudgesRate t v unreached = Within t × (v < t.n) × Live (shape_of t) × NoLoopT
 JudgesRate t v too_wide = Within t × (v < t.n) × Live (shape_of t) × ((a : Range) × Rates (shape_of t) (ranges_of t) v a × WideAt (shape_of t) (ranges_of t) a)
 JudgesRate t v (rated a) = Within t × (v < t.n) × Live (shape_of t) × Rates (shape_of t) (ranges_of t) v a × (¬ (WideAt (shape_of t) (ranges_of t) a))
 
+-- what is told of a transition: number 0 and place 0 with the two ends of its rate, or the number and the place of a refusal, and all else 0
+pub record Rated : Type 0 where
+  pub refusal : ℕ
+  pub place : ℕ
+  pub exact : Bool
+  pub low : Ratio
+  pub high : Ratio
+
 abbrev pub refused_rate : ℕ → ℕ → Rated
 refused_rate f p = record { refusal = f; place = p; exact = false; low = record { p = 0; q = 0 }; high = record { p = 0; q = 0 } }
+
+-- what is told by what the crate hands back
+abbrev pub told_rate : Result Given Refusal → Rated
+told_rate (Ok x) = record { refusal = 0; place = 0; exact = x.exact; low = x.low; high = x.high }
+told_rate (Err e) = refused_rate (number_of e.why) e.place
 
 abbrev pub answered_rate : Range → Rated
 answered_rate a = record { refusal = 0; place = 0; exact = a.exact; low = record { p = a.low_p; q = a.low_q }; high = record { p = a.high_p; q = a.high_q } }
@@ -156,15 +175,6 @@ rate_unique t v r s a b = a.result ∙ ap (rated_of t.n) (rate_verdict_unique t 
 pub rate_outside : (t : Table) (v f k : ℕ) (r : Rated) → FirstBad t k × (f ≡ 3) → r ≡ refused_rate f k → RateOf t v r
 rate_outside t v f k r b e = record { verdict = bad_field k; judged = b.0; result = e ∙ ap (λ x. refused_rate x k) b.1 }
 
-pub rate_unnamed : (t : Table) → Within t → (v : ℕ) (r : Rated) → t.n ≤ v → r ≡ refused_rate 10 t.n → RateOf t v r
-rate_unnamed t w v r b e = record { verdict = no_name; judged = (w, b); result = e }
-
--- one side: no loop, or the period in lowest terms
-pub record Paced (S : Shape) (D : ℕ → ℕ) (found : Bool) (p q : ℕ) : Type 0 where
-  pub none : found ≡ false → NoLoop S
-  pub period : found ≡ true → Period S D p q
-  pub lowest : found ≡ true → Lowest p q
-
 -- two sides put together
 pub record MetRate (p q P Q : ℕ) (r : Rated) : Type 0 where
   pub exact : Bool
@@ -174,6 +184,11 @@ pub record MetRate (p q P Q : ℕ) (r : Rated) : Type 0 where
 -- a period in lowest terms
 abbrev pub InLowest : Shape → (ℕ → ℕ) → ℕ → ℕ → Type 0
 InLowest S D p q = Period S D p q × Lowest p q
+
+-- one side: no loop, or the period in lowest terms
+abbrev pub Paced : Shape → (ℕ → ℕ) → Option Ratio → Type 0
+Paced S D None = NoLoop S
+Paced S D (Some a) = InLowest S D a.p a.q
 
 -- both sides: refused 6 where there is no loop, else the periods with the least and with the greatest delays
 abbrev pub RatedIn : Shape → Ranges → Rated → Type 0
@@ -188,27 +203,28 @@ RatedTo S K v r =
     ⊎ ((a : Range) × (Rate S K.least v a.low_p a.low_q × Lowest a.low_p a.low_q) × (Rate S K.greatest v a.high_p a.high_q × Lowest a.high_p a.high_q) × Exact a.low_p a.low_q a.high_p a.high_q a.exact × (r ≡ answered_rate a))
 
 module _ (S : Shape) (D : ℕ → ℕ) (P Q : ℕ) (X : List ℕ) (live : Live S) (c : Reached S D P Q X) where
-  pub paced : SomeLoop S → Paced S D true P Q
-  paced some = record { none = λ z. absurd (true≢false z); period = λ z. climbed_period S D P Q X c.climbed live some; lowest = λ z. c.climbed.lowest }
+  pub paced : SomeLoop S → Paced S D (Some (record { p = P; q = Q }))
+  paced some = (climbed_period S D P Q X c.climbed live some, c.climbed.lowest)
 
   module _ (n len at : ℕ) (rules : List ℕ) (f : FoundFirst S (TightRule S D P Q X) n len at rules) where
-    pub paced_tight : len ≢ 0 → Paced S D true P Q
+    pub paced_tight : len ≢ 0 → Paced S D (Some (record { p = P; q = Q }))
     paced_tight d = paced (record { at = at; loop = take len rules; is_loop = (f.some (omega arith)).is_one.is_loop })
 
-    pub paced_none : len ≡ 0 → Paced S D false 0 0
-    paced_none e = record { none = λ z. climbed_none S D P Q X c.climbed (f.none e); period = λ z. absurd (false≢true z); lowest = λ z. absurd (false≢true z) }
+    pub paced_none : len ≡ 0 → Paced S D None
+    paced_none e = climbed_none S D P Q X c.climbed (f.none e)
 
 -- the same side for delays that agree
-pub paced_same : (S : Shape) (D E : ℕ → ℕ) → ((r : ℕ) → r < S.rules → D r ≡ E r) → (f : Bool) (p q : ℕ) → Paced S D f p q → Paced S E f p q
-paced_same S D E same f p q x = record { none = x.none; period = λ z. period_same S D E same p q (x.period z); lowest = x.lowest }
+pub paced_same : (S : Shape) (D E : ℕ → ℕ) → ((r : ℕ) → r < S.rules → D r ≡ E r) → (a : Option Ratio) → Paced S D a → Paced S E a
+paced_same S D E same None x = x
+paced_same S D E same (Some a) x = (period_same S D E same a.p a.q x.0, x.1)
 
-pub ends_none : (S : Shape) (K : Ranges) (p q : ℕ) (r : Rated) (f : Bool) → Paced S K.least f p q → f ≡ false → r ≡ refused_rate 6 0 → RatedIn S K r
-ends_none S K p q r f x z e = inl (x.none z, e)
+-- what was found with one of the two delays of the columns is said of the columns
+pub paced_columns : (c : Columns) (r : Filled) → (r.source.now ≡ c.source) × (r.target.now ≡ c.target) × (r.offset.now ≡ c.offset) → (delay : List ℕ) → r.delay.now ≡ delay
+    → (r.m ≡ c.m) × (r.n ≡ c.n) → (a : Option Ratio) → Paced (of_filled r) (delays_of r) a → Paced (of_columns c) (delay_at delay) a
+paced_columns c r e delay d z a h = rw (e.0, e.1, e.2, d, z.0) at h
 
-pub ends_met : (S : Shape) (K : Ranges) (p q P Q : ℕ) (f g : Bool) (r : Rated) → Paced S K.least f p q → f ≡ true → Paced S K.greatest g P Q → MetRate p q P Q r → RatedIn S K r
-ends_met S K p q P Q f true r x z y m =
-    inr (record { low_p = p; low_q = q; high_p = P; high_q = Q; exact = m.exact }, (x.period z, x.lowest z), (y.period refl, y.lowest refl), m.meets, m.result)
-ends_met S K p q P Q f false r x z y m = let l = x.period z in absurd (y.none refl l.at l.loop l.is_loop)
+pub ends_met : (S : Shape) (K : Ranges) (a b : Ratio) (r : Rated) → Paced S K.least (Some a) → Paced S K.greatest (Some b) → MetRate a.p a.q b.p b.q r → RatedIn S K r
+ends_met S K a b r x y m = inr (record { low_p = a.p; low_q = a.q; high_p = b.p; high_q = b.q; exact = m.exact }, x, y, m.meets, m.result)
 
 -- THE ENDS OF THE RULES WHOSE TARGETS REACH v ARE THE RATE'S
 pub rated_to : (S T : Shape) (K L : Ranges) (v : ℕ) (f : ℕ → ℕ) → Gathers S T v f → ((j : ℕ) → j < T.rules → L.least j ≡ K.least (f j)) → ((j : ℕ) → j < T.rules → L.greatest j ≡ K.greatest (f j))

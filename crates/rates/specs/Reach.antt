@@ -2,14 +2,14 @@
 --
 --   limits_plain              the limits, whatever the offsets
 --   Near target v dist r      == the target of rule r is v, or has a distance below 512 to it
---   Counts t v d k            == k is 1 where a rule into t is one of them, else 0; counts_most
+--   Counts t v d k            == k is 1 where a rule into t is one of them, else 0
 --   Filled column list len xs == xs has room for all rules, and its first len places hold the column's entries for the rules of the list
 --   Taken .. i .. len         == the columns hold, in their first len places, those of the first i rules that are near
 --   taken_none, taken_next    the loop that gathers them
+--   sought_columns            the distances over the arcs that columns lend are those over their rules
 --   reaches, reaches_not      the transitions with a distance, and v, reach v; no other does
 --   gathers, gathers_as_they_are   so they are the rules whose targets reach v; where every transition reaches v, all are
---   limits_gathered, ordered_gathered   they are within the limits
-use Rattle.std.specs.Prelude.{◌≡◌, refl, Bool, ◌⊎◌, ◌≢◌, List, [], ◌∷◌, ℕ, suc, ◌+◌, ◌≤◌, ◌<◌, length, get_or, set, replicate}
+use Rattle.std.specs.Prelude.{◌≡◌, refl, ◌⊎◌, ◌≢◌, List, [], ◌∷◌, ℕ, suc, ◌+◌, ◌≤◌, ◌<◌, length, get_or, set, replicate}
 use Rattle.std.proofs.Common.{sym, ap, ◌∙◌, subst, inl, inr, ⊎_elim, arith, length-set, get_or-set_same, get_or-set_other}
 use Rattle.std.proofs.Math.Logic.{by_cases}
 use Rattle.std.proofs.Math.Decide.{ℕ_discrete, dec_lt}
@@ -19,7 +19,11 @@ use Rattle.model.specs.Rate.{Reaches}
 use Rattle.theory.specs.Walk.{path_short, LoopAbove, Shortened, shorten}
 use Rattle.theory.specs.Rate.{reach_here}
 use Rattle.theory.specs.Gather.{Reaching, Gathers, gathers_all}
-use Rattle.columns.specs.Columns.{shape, Limits, Ordered}
+use Rattle.columns.specs.Columns.{shape, Limits}
+use Rattle.columns.specs.declared.Columns.{Columns}
+use Rattle.columns.specs.declared.rules.Arcs.{Arcs}
+use Rattle.columns.specs.declared.rules.Rules.{Rules}
+use Rattle.columns.specs.Views.{of_arcs}
 use Rattle.peel.specs.Plain.{plain}
 use Rattle.loops.specs.Listed.{Listed, listed_none, listed_skip, listed_add, Gathered}
 use Rattle.distances.specs.Near.{near_least}
@@ -34,10 +38,6 @@ Near target v dist r = (get_or target r 0 ≡ v) ⊎ (get_or dist (get_or target
 
 abbrev pub Counts : ℕ → ℕ → ℕ → ℕ → Type 0
 Counts t v d k = (((t ≡ v) ⊎ (d < 512)) × (k ≡ 1)) ⊎ ((t ≢ v) × (512 ≤ d) × (k ≡ 0))
-
-pub counts_most : (t v d k : ℕ) → Counts t v d k → k ≤ 1
-counts_most t v d k (inl c) = omega (arith, c.1)
-counts_most t v d k (inr c) = omega (arith, c.2)
 
 -- ------------------------------------------------------------------------------------------------------------------------------ the loop that gathers
 
@@ -124,6 +124,12 @@ module _ (source target offset least greatest : List ℕ) (v : ℕ) (dist : List
         let z : len + k ≡ len = omega (arith, c.2) in
         rw z (taken_far (⊎_elim (λ a. c.0 (e ∙ a)) (λ a. omega (arith, c.1, a, ap (λ y. get_or dist y 0) e))))
 
+-- the distances over the arcs of columns are those over their rules
+pub sought_columns : (c : Columns) (r : Rules) (a : Arcs) → (r.source.now ≡ c.source) × (r.target.now ≡ c.target) × (r.offset.now ≡ c.offset) → (r.m ≡ c.m) × (r.n ≡ c.n)
+    → (a.source ≡ r.source) × (a.target ≡ r.target) × (a.m ≡ r.m) × (a.n ≡ r.n) → (v : ℕ) (dist : List ℕ) (k : ℕ)
+    → Sought (of_arcs a) a.n v dist k → Sought (plain c.source c.target c.m) c.n v dist k
+sought_columns c r a e z f v dist k h = rw (f.0, f.1, f.2, f.3, e.0, e.1, z.0, z.1) at h
+
 -- walks do not depend on offsets
 walk_offsets : (source target o o' : List ℕ) (m u w : ℕ) (rs : List ℕ) → Walk (shape source target o m) u w rs → Walk (shape source target o' m) u w rs
 walk_offsets source target o o' m u w [] h = h
@@ -176,23 +182,3 @@ module _ (source target : List ℕ) (m n v : ℕ) (limits : Limits source target
   -- all are where every transition reaches v
   pub gathers_as_they_are : n ≤ k → Gathers (shape source target offset m) (shape source target offset m) v (λ r. r)
   gathers_as_they_are all = gathers_all (shape source target offset m) v (λ r b. let l = (limits.fits r b).1 in reaches (get_or target r 0) l (far.all all (get_or target r 0) l))
-
-module _ (source target offset least greatest : List ℕ) (v : ℕ) (dist : List ℕ) (m : ℕ) (from to off low high : List ℕ) (len : ℕ) (h : Taken source target offset least greatest v dist m from to off low high len) where
-  pub limits_gathered : (n : ℕ) → Limits source target offset m n → Limits from to off len n
-  limits_gathered n l =
-      record {
-        few_rules = omega (arith, h.listed.few, l.few_rules);
-        some_transition = l.some_transition;
-        few_transitions = l.few_transitions;
-        fits = λ j b. let f = l.fits (get_or h.list j 0) (h.listed.below j b) in (omega (arith, h.sources.1 j b, f), omega (arith, h.targets.1 j b, f));
-        small_offsets = λ j b. omega (arith, h.offsets.1 j b, l.small_offsets (get_or h.list j 0) (h.listed.below j b));
-      }
-
-  pub ordered_gathered : (blank : Bool) → Ordered least greatest m blank → Ordered low high len blank
-  ordered_gathered blank o =
-      record {
-        short_least = λ j b. omega (arith, h.leasts.1 j b, o.short_least (get_or h.list j 0) (h.listed.below j b));
-        short_greatest = λ j b. omega (arith, h.greatests.1 j b, o.short_greatest (get_or h.list j 0) (h.listed.below j b));
-        in_order = λ j b. omega (arith, h.leasts.1 j b, h.greatests.1 j b, o.in_order (get_or h.list j 0) (h.listed.below j b));
-        no_blank = λ e j b. h.leasts.1 j b ∙ o.no_blank e (get_or h.list j 0) (h.listed.below j b) ∙ sym (h.greatests.1 j b);
-      }

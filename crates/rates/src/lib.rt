@@ -4,55 +4,23 @@
 mod ends;
 mod reach;
 
-ghost use Rattle.rates.specs.Rate.{RateOf};
+ghost use Rattle.rates.specs.Rate.{told_rate, RateOf};
 
+pub use engine::{Range, Ratio};
+use refusals::{Refusal, Why};
 use table::Table;
 
-// A ratio in lowest terms.
-#[derive(Clone, Copy)]
-pub struct Ratio {
-    pub p: u64,
-    pub q: u64,
-}
-
-// Refused: number and place, and all else 0. Else the two ends of a transition's rate, and whether they meet.
-#[derive(Clone, Copy)]
-pub struct Rated {
-    pub refusal: u32,
-    pub place: usize,
-    pub exact: bool,
-    pub low: Ratio,
-    pub high: Ratio,
-}
-
-const NAME: u32 = 10;
-
-// The rate of transition v: its two ends; or refused 3, 10, 5, 6 or 11, in this order.
-pub fn rate(t: Table, v: usize) -> Rated
-    ensures { RateOf t v result }
+// The rate of transition v: its two ends; or refused RANGE, NAME, LOOP or FLAT, in this order.
+pub fn rate(t: Table, v: usize) -> Result<Range, Refusal>
+    ensures { RateOf t v (told_rate result) }
 {
-    let checked = table::check(t);
-    if 0 < checked.refusal {
-        return ends::unrated(checked.refusal, checked.place);
-    }
-    let n = t.n;
-    if n <= v {
-        return ends::unrated(NAME, n);
+    table::check(t)?;
+    if t.n <= v {
+        return Err(Why::Name.at(t.n));
     }
     let c = columns::lay(t);
-    let zero = loops::zero_loop(&c.source, &c.target, &c.offset, t.m, n);
-    if 0 < zero.len {
-        return ends::unrated(engine::LOOP, zero.at);
+    if let Some(zero) = loops::zero_loop(&c.rules()) {
+        return Err(Why::Loop.at(zero.at));
     }
-    reach::ends_to(
-        &c.source,
-        &c.target,
-        &c.offset,
-        &c.least,
-        &c.greatest,
-        c.blank,
-        t.m,
-        n,
-        v,
-    )
+    reach::ends_to(&c, v)
 }

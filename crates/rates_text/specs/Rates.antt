@@ -6,31 +6,37 @@
 --   FileRate s v x       x is the rate of transition v of the file s, or the refusal in reading it
 --   RateReport s v r     THE PROMISE of `rate`: r holds the line
 --   ListingOf s r        THE PROMISE of `list_rates`: the rates of all transitions of the file s; none where reading refuses it
+--   told_rates xs, told_group a, told_listing r    what is told by what the code hands back: of rates, of a listing, of a listing or a refusal
 --   alike_rates x y       two rates are the same, or both are refused alike
 --   group_text a v        the line of the transitions that share the rate of v, where v is the lowest of them; else nothing
 --   GroupOf a v r        THE PROMISE of `group`: r holds it
 --   told s               the number that the digits s say, or one of 1,000 or more where they say one
 --
 -- Theorems: file_rate_unique, rate_report_unique, listing_unique, group_unique (one outcome each), rate_first, listing_first (the first bytes decide).
-use Rattle.std.specs.Prelude.{◌≡◌, refl, Bool, true, false, ◌≢◌, List, [], ◌∷◌, ◌++◌, ℕ, zero, suc, ◌+◌, ◌-◌, ◌*◌, ◌≤◌, ◌<◌, ltb, eqb, length, get_or, set, take, replicate}
-use Rattle.std.proofs.Common.{sym, ap, ◌∙◌, subst, arith, add-one, get_or-set_same, get_or-set_other, lt-ltb, le-ltb, eq-eqb, ne_eqb}
+use Rattle.std.specs.Prelude.{◌≡◌, refl, Bool, true, false, List, [], ◌∷◌, ◌++◌, ℕ, zero, suc, ◌+◌, ◌-◌, ◌*◌, ◌≤◌, ◌<◌, ltb, eqb, length, get_or, set, take, replicate, fold, map, Result, Ok, Err, ◌||◌}
+use Rattle.std.proofs.Common.{sym, ap, ◌∙◌, subst, arith, add-one, get_or-set_same, get_or-set_other, lt-ltb, le-ltb}
 use Rattle.std.proofs.Math.Logic.{by_cases}
 use Rattle.std.proofs.Math.Decide.{dec_lt, ℕ_discrete}
-use Rattle.std.proofs.lemmas.List.{length-replicate}
+use Rattle.std.proofs.lemmas.List.{take_all}
+use Rattle.std.proofs.Math.ListN.{get_or-map}
+use Rattle.std.proofs.lemmas.List.Folds.{list_any_more}
+use Rattle.std.proofs.lemmas.List.Sums.{fold_more}
+use Rattle.std.specs.List.{list_any}
 use Rattle.sevens.specs.Sevens.{Bytes}
 use Rattle.table.specs.declared.Table.{Table}
 use Rattle.rulefile.specs.declared.FileRead.{FileRead}
 use Rattle.rulefile.specs.File.{read_of}
 use Rattle.rulefile.specs.Length.{longest}
 use Rattle.rulefile.specs.First.{first_bytes}
-use Rattle.rates.specs.declared.Rated.{Rated}
-use Rattle.rates.specs.Rate.{refused_rate, RateOf, rate_unique}
+use Rattle.refusals.specs.declared.Refusal.{Refusal}
+use Rattle.engine.specs.declared.Range.{Range}
+use Rattle.rates.specs.Rate.{Rated, refused_rate, told_rate, RateOf, rate_unique}
 use Rattle.words.specs.declared.Text.{Text}
 use Rattle.words.specs.Decimal.{ascii, pick, numbers, numbers_append}
 use Rattle.words.specs.Puts.{Puts, puts_then, puts_same}
 use Rattle.words.specs.Lines.{newline, ratio, refused_words_of}
 use Rattle.words.specs.Held.{Holds, held_unique}
-use Rattle.rates_text.specs.declared.Listing.{Listing}
+use Rattle.rates_text.specs.declared.Listing.{Listing as Given}
 
 -- ------------------------------------------------------------------------------------------------------------------------------- one transition
 
@@ -65,6 +71,22 @@ pub record RateReport (s : List ℕ) (v : ℕ) (r : Text) : Type 0 where
 
 abbrev pub no_rate : Rated
 no_rate = refused_rate 0 0
+
+-- what is told of a file: its n, and the rates of 256 transitions
+pub record Listing : Type 0 where
+  pub n : ℕ
+  pub rates : List Rated
+
+-- what is told by what the code hands back
+abbrev pub told_rates : List (Result Range Refusal) → List Rated
+told_rates xs = map told_rate xs
+
+abbrev pub told_group : Given → Listing
+told_group a = record { n = a.n; rates = told_rates a.rates }
+
+abbrev pub told_listing : Result Given Refusal → Listing
+told_listing (Ok a) = told_group a
+told_listing (Err e) = record { n = 0; rates = replicate 256 no_rate }
 
 -- 256 rates, of which the first n are the table's; past these the rate is refused 10
 pub record ReadListing (f : FileRead) (r : Listing) : Type 0 where
@@ -165,93 +187,48 @@ listing_first s k b h r a = subst (λ (f : FileRead). ReadListing f r) (first_by
 
 -- ------------------------------------------------------------------------------------------------------------------------- steps of the proofs
 
-module _ (x : Rated) where
-  pub words_refused : 0 < x.refusal → refused_words_of x.refusal x.place ≡ rate_words_of x
-  words_refused b = simp (lt-ltb 0 x.refusal b)
+-- a rate that no call has given
+abbrev unset : Result Range Refusal
+unset = Ok (record { exact = false; low = record { p = 0; q = 0 }; high = record { p = 0; q = 0 } })
 
-  pub words_exact : x.refusal ≤ 0 → x.exact ≡ true → exact_words_of x.high.p x.high.q ≡ rate_words_of x
-  words_exact b e = simp (le-ltb 0 x.refusal b, e)
+pub rate_told : (xs : List (Result Range Refusal)) (v : ℕ) → get_or (told_rates xs) v no_rate ≡ told_rate (get_or xs v unset)
+rate_told xs v = get_or-map told_rate xs v unset
 
-  pub words_range : x.refusal ≤ 0 → x.exact ≡ false → range_words_of x.low.p x.low.q x.high.p x.high.q ≡ rate_words_of x
-  words_range b e = simp (le-ltb 0 x.refusal b, e)
+either_side : (a b : Bool) → (a || b) ≡ pick b true a
+either_side true true = refl
+either_side true false = refl
+either_side false true = refl
+either_side false false = refl
 
--- what the tests say
-module _ (x y : Rated) where
-  pub alike_refusal : x.refusal ≢ y.refusal → false ≡ alike_rates x y
-  alike_refusal n = simp (ne_eqb x.refusal y.refusal n)
-
-  module _ (a : x.refusal ≡ y.refusal) where
-    pub alike_low_p : x.low.p ≢ y.low.p → false ≡ alike_rates x y
-    alike_low_p n = simp (eq-eqb x.refusal y.refusal a, ne_eqb x.low.p y.low.p n)
-
-    module _ (b : x.low.p ≡ y.low.p) where
-      pub alike_low_q : x.low.q ≢ y.low.q → false ≡ alike_rates x y
-      alike_low_q n = simp (eq-eqb x.refusal y.refusal a, eq-eqb x.low.p y.low.p b, ne_eqb x.low.q y.low.q n)
-
-      module _ (c : x.low.q ≡ y.low.q) where
-        pub alike_high_p : x.high.p ≢ y.high.p → false ≡ alike_rates x y
-        alike_high_p n = simp (eq-eqb x.refusal y.refusal a, eq-eqb x.low.p y.low.p b, eq-eqb x.low.q y.low.q c, ne_eqb x.high.p y.high.p n)
-
-        module _ (d : x.high.p ≡ y.high.p) where
-          pub alike_high_q : x.high.q ≢ y.high.q → false ≡ alike_rates x y
-          alike_high_q n =
-              simp (eq-eqb x.refusal y.refusal a, eq-eqb x.low.p y.low.p b, eq-eqb x.low.q y.low.q c, eq-eqb x.high.p y.high.p d, ne_eqb x.high.q y.high.q n)
-
-          pub alike_all : x.high.q ≡ y.high.q → true ≡ alike_rates x y
-          alike_all e =
-              simp (eq-eqb x.refusal y.refusal a, eq-eqb x.low.p y.low.p b, eq-eqb x.low.q y.low.q c, eq-eqb x.high.p y.high.p d, eq-eqb x.high.q y.high.q e)
-
-pub earlier_none : (xs : List Rated) (v : ℕ) → false ≡ earlier_than xs v 0
+-- as one of the first k, for a chain over them
+pub earlier_any : (xs : List (Result Range Refusal)) (v k : ℕ) → k ≤ length xs
+    → list_any (λ x. alike_rates (told_rate x) (told_rate (get_or xs v unset))) (take k xs) ≡ earlier_than (told_rates xs) v k
 unfolding earlier_than
-earlier_none xs v = refl
-
-pub earlier_next : (xs : List Rated) (v u : ℕ) (f g r : Bool) (mine : Rated) → f ≡ earlier_than xs v u → mine ≡ get_or xs v no_rate → g ≡ alike_rates (get_or xs u no_rate) mine → r ≡ pick g true f → r ≡ earlier_than xs v (u + 1)
-unfolding earlier_than
-earlier_next xs v u f g r mine e m a b = rw (add-one, b, e, a, m) refl
-
-module _ (k n : ℕ) (x y : Rated) where
-  pub member_in : k < n → alike_rates x y ≡ true → k ∷ [] ≡ member_if k n x y
-  member_in b e = simp (lt-ltb k n b, e)
-
-  pub member_other : k < n → alike_rates x y ≡ false → [] ≡ member_if k n x y
-  member_other b e = simp (lt-ltb k n b, e)
-
-  pub member_past : n ≤ k → [] ≡ member_if k n x y
-  member_past b = simp (le-ltb k n b)
+earlier_any xs v zero b = refl
+earlier_any xs v (suc k) b =
+    let p = λ (x : Result Range Refusal). alike_rates (told_rate x) (told_rate (get_or xs v unset)) in
+    let here = p (get_or xs k unset) in
+    let there : here ≡ alike_rates (get_or (told_rates xs) k no_rate) (get_or (told_rates xs) v no_rate) = rw (rate_told xs k, rate_told xs v) refl in
+    (rw add-one at (list_any_more p xs k unset (omega arith))) ∙ either_side (list_any p (take k xs)) here ∙ ap (λ e. pick here true e) (earlier_any xs v k (omega arith))
+    ∙ ap (λ h. pick h true (earlier_than (told_rates xs) v k)) there
 
 pub members_none : (xs : List Rated) (n v : ℕ) → [] ≡ numbers (members_to xs n v 0)
 unfolding members_to
 members_none xs n v = refl
 
-pub members_next : (xs : List Rated) (n v k : ℕ) (mine : Rated) {out o o' : List ℕ} {at p q : ℕ} → mine ≡ get_or xs v no_rate → Puts (numbers (members_to xs n v k)) out at o p
-    → Puts (numbers (member_if k n (get_or xs k no_rate) mine)) o p o' q → Puts (numbers (members_to xs n v (k + 1))) out at o' q
+pub members_next : (xs : List Rated) (n v k : ℕ) (other mine : Rated) {out o o' : List ℕ} {at p q : ℕ} → other ≡ get_or xs k no_rate → mine ≡ get_or xs v no_rate
+    → Puts (numbers (members_to xs n v k)) out at o p → Puts (numbers (member_if k n other mine)) o p o' q → Puts (numbers (members_to xs n v (k + 1))) out at o' q
 unfolding members_to
-members_next xs n v k mine m a b =
-    rw add-one (puts_same (sym (numbers_append (members_to xs n v k) (member_if k n (get_or xs k no_rate) (get_or xs v no_rate)))) (puts_then a (rw m at b)))
+members_next xs n v k other mine t m a b =
+    rw add-one (puts_same (sym (numbers_append (members_to xs n v k) (member_if k n (get_or xs k no_rate) (get_or xs v no_rate)))) (puts_then a (rw (t, m) at b)))
 
 -- one rate more
-pub rates_next : (t : Table) (xs : List Rated) (v : ℕ) (x : Rated) → length xs ≡ 256 → v < 256 → ((w : ℕ) → w < v → RateOf t w (get_or xs w no_rate)) → RateOf t v x
-    → (w : ℕ) → w < v + 1 → RateOf t w (get_or (set xs v x) w no_rate)
+pub rates_next : (t : Table) (xs : List (Result Range Refusal)) (v : ℕ) (x : Result Range Refusal) → length xs ≡ 256 → v < 256
+    → ((w : ℕ) → w < v → RateOf t w (get_or (told_rates xs) w no_rate)) → RateOf t v (told_rate x) → (w : ℕ) → w < v + 1 → RateOf t w (get_or (told_rates (set xs v x)) w no_rate)
 rates_next t xs v x size b h r w l =
     by_cases (ℕ_discrete w v)
-    (λ e. rw (e, get_or-set_same xs v x no_rate (omega arith)) r)
-    (λ d. rw (get_or-set_other xs v w x no_rate d) (h w (omega arith)))
-
--- how the calls on a file end
-module _ (s : List ℕ) (f : FileRead) (is : f ≡ read_of s) where
-  pub rate_refused : (v : ℕ) (x : Rated) → 0 < f.refusal → x ≡ refused_rate f.refusal f.place → FileRate s v x
-  rate_refused v x b e = subst (λ (g : FileRead). ReadRate g v x) is (record { refused = λ l. e; accepted = λ l. absurd (omega arith) })
-
-  pub rate_given : (v : ℕ) (x : Rated) → f.refusal ≤ 0 → RateOf f.table v x → FileRate s v x
-  rate_given v x b e = subst (λ (g : FileRead). ReadRate g v x) is (record { refused = λ l. absurd (omega arith); accepted = λ l. e })
-
-  pub listing_refused : (none : Rated) → none ≡ no_rate → 0 < f.refusal → ListingOf s (record { n = 0; rates = replicate 256 none })
-  listing_refused none e b =
-      rw e (subst (λ (g : FileRead). ReadListing g (record { n = 0; rates = replicate 256 no_rate })) is
-      (record { refused = λ l. refl; size = length-replicate 256 no_rate; count = λ l. absurd (omega arith); own = λ l. absurd (omega arith) }))
-
-  pub listing_given : (xs : List Rated) → f.refusal ≤ 0 → (length xs ≡ 256) × ((v : ℕ) → v < 256 → RateOf f.table v (get_or xs v no_rate)) → ListingOf s (record { n = f.table.n; rates = xs })
-  listing_given xs b h = subst (λ (g : FileRead). ReadListing g (record { n = f.table.n; rates = xs })) is (record { refused = λ l. absurd (omega arith); size = h.0; count = λ l. refl; own = λ l. h.1 })
+    (λ e. rw (e, rate_told (set xs v x) v, get_or-set_same xs v x unset (omega arith)) r)
+    (λ d. rw (rate_told (set xs v x) w, get_or-set_other xs v w x unset d, ← rate_told xs w) (h w (omega arith)))
 
 -- how `group` ends
 module _ (a : Listing) (v : ℕ) (r : Text) where
@@ -264,23 +241,14 @@ module _ (a : Listing) (v : ℕ) (r : Text) where
   pub group_shown : v < a.n → v < 256 → earlier_than a.rates v v ≡ true → Holds r [] → GroupOf a v r
   group_shown b c e h = simp (lt-ltb v a.n b, lt-ltb v 256 c, e) h
 
-  pub group_first : v < a.n → v < 256 → earlier_than a.rates v v ≡ false → Holds r (group_line_of a v) → GroupOf a v r
-  group_first b c e h = simp (lt-ltb v a.n b, lt-ltb v 256 c, e) h
-
--- the loop over the digits
-pub told_none : (s : List ℕ) → 0 ≡ told_to s 0
+-- what the digits say, as a fold of them
+told_fold : (s : List ℕ) (i : ℕ) → i ≤ length s → fold more_told 0 (take i s) ≡ told_to s i
 unfolding told_to
-told_none s = refl
+told_fold s zero b = refl
+told_fold s (suc i) b = (rw add-one at (fold_more more_told 0 s i 0 (omega arith))) ∙ ap (λ v. more_told v (get_or s i 0)) (told_fold s i (omega arith))
 
-pub told_next : (s : List ℕ) (i v r : ℕ) → v ≡ told_to s i → r ≡ more_told v (get_or s i 0) → r ≡ told_to s (i + 1)
-unfolding told_to
-told_next s i v r e h = rw (add-one, ← e) h
-
-pub more_stays : (v d : ℕ) → 1000 ≤ v → v ≡ more_told v d
-more_stays v d b = simp (le-ltb v 1000 b)
-
-pub more_adds : (v d : ℕ) → v < 1000 → v * 10 + (d - 48) ≡ more_told v d
-more_adds v d b = simp (lt-ltb v 1000 b)
+pub told_all : (s : List ℕ) → fold more_told 0 s ≡ told s
+told_all s = ap (λ (d : List ℕ). fold more_told 0 d) (sym (take_all (length s) s (omega arith))) ∙ told_fold s (length s) (omega arith)
 
 -- as `rate` is told them
 pub told_digits : (told (ascii "0") ≡ 0) × (told (ascii "17") ≡ 17) × (told (ascii "255") ≡ 255)

@@ -3,38 +3,24 @@
 
 mod line;
 
-ghost use Rattle.std.specs.Prelude.{◌≡◌, [], ℕ, ◌<◌, length, get_or};
-ghost use Rattle.rates.specs.Rate.{refused_rate, RateOf};
+ghost use Rattle.std.specs.Prelude.{◌≡◌, [], ℕ, ◌≤◌, ◌<◌, length, get_or, IfOk, IfErr, Err};
+ghost use Rattle.rulefile.specs.File.{read_of, told_read};
+ghost use Rattle.rates.specs.Rate.{RateOf, told_rate};
 ghost use Rattle.words.specs.Held.{Holds};
-ghost use Rattle.rates_text.specs.Rates.{group_line_of, FileRate, RateReport, no_rate, ListingOf, GroupOf, more_told, told};
+ghost use Rattle.rates_text.specs.Rates.{told_rates, told_group, told_listing, group_line_of, FileRate, RateReport, no_rate, ListingOf, GroupOf, more_told, told};
 
-use rates::{Rated, Ratio};
+use rates::Range;
+use refusals::{Refusal, Why};
 use table::Table;
 use words::Text;
 
-fn unrated(refusal: u32, place: usize) -> Rated
-    ensures { result ≡ refused_rate refusal place }
-{
-    let none = Ratio { p: 0, q: 0 };
-    Rated {
-        refusal: refusal,
-        place: place,
-        exact: false,
-        low: none,
-        high: none,
-    }
-}
+pub type Rate = Result<Range, Refusal>;
 
 // The rate of transition v of a file, or the refusal in reading it.
-fn rate_in(bytes: &[u8], v: usize) -> Rated
-    ensures { FileRate bytes.now v result }
+fn rate_in(bytes: &[u8], v: usize) -> Rate
+    ensures { FileRate bytes.now v (told_rate result) }
 {
-    let file = rulefile::read(bytes);
-    if 0 < file.refusal {
-        return unrated(file.refusal, file.place);
-    }
-    let t = file.table;
-    period::rate(t, v)
+    period::rate(rulefile::table(bytes)?, v)
 }
 
 // The line for the rate of transition v of a file.
@@ -43,47 +29,40 @@ pub fn rate(bytes: &[u8], v: usize) -> Text
 {
     let x = rate_in(bytes, v);
     let mut out = [0u8; Text::ROOM];
-    let at = line::rate_words(x, &mut out, 0);
+    let at = line::rate_words(&x, &mut out, 0);
     let len = words::byte(b'\n', &mut out, at);
-    Text {
-        len: len,
-        bytes: out,
-    }
+    Text { len, bytes: out }
 }
 
-// The rates of all transitions of a file: the first n of them. None where reading refuses the file.
+// The rates of all transitions of a file: the first n of them.
 #[derive(Clone, Copy)]
 pub struct Listing {
     pub n: usize,
-    pub rates: [Rated; 256],
+    pub rates: [Rate; 256],
 }
 
-fn all_rates(t: Table) -> [Rated; 256]
-    ensures { (length result ≡ 256) × ((v : ℕ) → v < 256 → RateOf t v (get_or result v no_rate)) }
+// (No `array::from_fn`: what it says of its calls did not prove `returns`.)
+fn all_rates(t: Table) -> [Rate; 256]
+    ensures { (length result ≡ 256) × ((v : ℕ) → v < 256 → RateOf t v (get_or (told_rates result) v no_rate)) }
 {
-    let none = unrated(0, 0);
-    let mut all = [none; 256];
-    let mut v = 0;
-    while v < 256 {
-        let x = period::rate(t, v);
-        all[v] = x;
-        v += 1;
+    let mut all = [Err(Why::Name.at(t.n)); 256];
+    for v in 0..256 {
+        all[v] = period::rate(t, v);
     }
     all
 }
 
-pub fn list_rates(bytes: &[u8]) -> Listing
-    ensures { ListingOf bytes.now result }
+// The rates of a file, or the refusal in reading it.
+pub fn list_rates(bytes: &[u8]) -> Result<Listing, Refusal>
+    ensures told { ListingOf bytes.now (told_listing result) }
+    ensures given { IfOk result (λ a. (read_of bytes.now).refusal ≡ 0) }
+    ensures refused { IfErr result (λ e. told_read (Err e) ≡ read_of bytes.now) }
 {
-    let file = rulefile::read(bytes);
-    if 0 < file.refusal {
-        let none = unrated(0, 0);
-        let all = [none; 256];
-        return Listing { n: 0, rates: all };
-    }
-    let t = file.table;
-    let all = all_rates(t);
-    Listing { n: t.n, rates: all }
+    let t = rulefile::table(bytes)?;
+    Ok(Listing {
+        n: t.n,
+        rates: all_rates(t),
+    })
 }
 
 fn nothing() -> Text
@@ -95,69 +74,42 @@ fn nothing() -> Text
     }
 }
 
-fn group_line(all: Listing, v: usize) -> Text
+fn group_line(all: &Listing, v: usize) -> Text
     requires { v < 256 }
-    ensures { Holds result (group_line_of all v) }
+    ensures { Holds result (group_line_of (told_group all.now) v) }
 {
-    let rates = all.rates;
-    let mine = rates[v];
     let mut out = [0u8; Text::ROOM];
-    let a = line::rate_words(mine, &mut out, 0);
+    let a = line::rate_words(&all.rates[v], &mut out, 0);
     let b = words::word(b" of", &mut out, a);
-    let c = line::members(rates, all.n, v, &mut out, b);
+    let c = line::members(&all.rates, all.n, v, &mut out, b);
     let len = words::byte(b'\n', &mut out, c);
-    Text {
-        len: len,
-        bytes: out,
-    }
+    Text { len, bytes: out }
 }
 
 // The line of the transitions that share the rate of v, where v is the lowest of them; else nothing.
-pub fn group(all: Listing, v: usize) -> Text
-    ensures { GroupOf all v result }
+pub fn group(all: &Listing, v: usize) -> Text
+    ensures { GroupOf (told_group all.now) v result }
 {
-    if all.n <= v {
-        return nothing();
-    }
-    if 256 <= v {
-        return nothing();
-    }
-    let rates = all.rates;
-    if line::earlier(rates, v) {
+    if all.n <= v || 256 <= v || line::earlier(&all.rates, v) {
         return nothing();
     }
     group_line(all, v)
-}
-
-fn digit_value(x: u8) -> usize
-    ensures { (result ≡ x) × (result < 256) }
-{
-    x as usize
 }
 
 // One digit more. From 1,000 on the number is that of no transition, and stays.
 fn shifted(v: usize, digit: u8) -> usize
     ensures { result ≡ more_told v digit }
 {
-    let d = digit_value(digit);
-    if 1000 <= v {
-        return v;
+    if v < 1000 {
+        v * 10 + usize::from(digit.saturating_sub(b'0'))
+    } else {
+        v
     }
-    if d < 48 {
-        return v * 10;
-    }
-    v * 10 + (d - 48)
 }
 
 // The transition that decimal digits name.
 pub fn transition(digits: &[u8]) -> usize
     ensures { result ≡ told digits.now }
 {
-    let mut v = 0;
-    let mut i = 0;
-    while i < digits.len() {
-        v = shifted(v, digits[i]);
-        i += 1;
-    }
-    v
+    digits.iter().fold(0, |v, &digit| shifted(v, digit))
 }

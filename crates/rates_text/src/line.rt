@@ -1,11 +1,15 @@
 // What a line is made of: the words for a rate, and the transitions that share one.
-ghost use Rattle.std.specs.Prelude.{◌≡◌, ◌+◌, ◌*◌, ◌≤◌, ◌<◌, true};
-ghost use Rattle.words.specs.Decimal.{pick, numbers};
+ghost use Rattle.std.specs.Prelude.{◌≡◌, ◌+◌, ◌*◌, ◌≤◌, ◌<◌};
+ghost use Rattle.std.specs.List.{list_any};
+ghost use Rattle.rates.specs.Rate.{told_rate};
+ghost use Rattle.words.specs.Decimal.{numbers};
 ghost use Rattle.words.specs.Puts.{Puts};
-ghost use Rattle.rates_text.specs.Rates.{exact_words_of, range_words_of, rate_words_of, alike_rates, earlier_than, member_if, members_to};
+ghost use Rattle.rates_text.specs.Rates.{exact_words_of, range_words_of, rate_words_of, alike_rates, earlier_than, member_if, members_to, told_rates};
 
-use rates::{Rated, Ratio};
+use crate::Rate;
+use rates::Ratio;
 
+// (`words::exact_line` and `range_line` have other words and end a line. Three calls each: one function that takes the words, with a bound of its own, is no shorter.)
 fn exact_words(x: Ratio, out: &mut [u8], at: usize) -> usize
     ensures { Puts (exact_words_of x.p x.q) out.old at out.new result × (result ≤ at + 96) }
 {
@@ -23,95 +27,59 @@ fn range_words(low: Ratio, high: Ratio, out: &mut [u8], at: usize) -> usize
     words::ratio(high.p, high.q, out, c)
 }
 
-pub fn rate_words(x: Rated, out: &mut [u8], at: usize) -> usize
-    ensures { Puts (rate_words_of x) out.old at out.new result × (result ≤ at + 96) }
+pub fn rate_words(rate: &Rate, out: &mut [u8], at: usize) -> usize
+    ensures { Puts (rate_words_of (told_rate rate.now)) out.old at out.new result × (result ≤ at + 96) }
 {
-    let low = x.low;
-    let high = x.high;
-    if 0 < x.refusal {
-        return words::refused_words(x.refusal, x.place, out, at);
+    match rate {
+        Ok(x) if x.exact => exact_words(x.high, out, at),
+        Ok(x) => range_words(x.low, x.high, out, at),
+        Err(e) => words::refused_words(e.why.number(), e.place, out, at),
     }
-    if x.exact {
-        return exact_words(high, out, at);
-    }
-    range_words(low, high, out, at)
 }
 
 // Whether two transitions share a rate: the same ends, or the same refusal.
-fn alike(x: Rated, y: Rated) -> bool
-    ensures { result ≡ alike_rates x y }
+fn alike(x: &Rate, y: &Rate) -> bool
+    ensures { result ≡ alike_rates (told_rate x.now) (told_rate y.now) }
 {
-    let a = x.low;
-    let b = y.low;
-    let c = x.high;
-    let d = y.high;
-    if x.refusal != y.refusal {
-        return false;
+    match (x, y) {
+        (Ok(x), Ok(y)) => x.low == y.low && x.high == y.high,
+        (Err(x), Err(y)) => x.why == y.why,
+        _ => false,
     }
-    if a.p != b.p {
-        return false;
-    }
-    if a.q != b.q {
-        return false;
-    }
-    if c.p != d.p {
-        return false;
-    }
-    if c.q != d.q {
-        return false;
-    }
-    true
 }
 
-fn either(before: bool, now: bool) -> bool
-    ensures { result ≡ pick now true before }
+fn any_alike(rates: &[Rate], mine: &Rate) -> bool
+    ensures { result ≡ list_any (λ x. alike_rates (told_rate x) (told_rate mine.now)) rates.now }
 {
-    if now {
-        return true;
-    }
-    before
+    rates.iter().any(|x| alike(x, mine))
 }
 
 // Whether a lower transition shares the rate of v.
-pub fn earlier(rates: [Rated; 256], v: usize) -> bool
+pub fn earlier(rates: &[Rate; 256], v: usize) -> bool
     requires { v < 256 }
-    ensures { result ≡ earlier_than rates v v }
+    ensures { result ≡ earlier_than (told_rates rates.now) v v }
 {
-    let mine = rates[v];
-    let mut found = false;
-    let mut u = 0;
-    while u < v {
-        let other = rates[u];
-        found = either(found, alike(other, mine));
-        u += 1;
-    }
-    found
+    any_alike(&rates[..v], &rates[v])
 }
 
 // Transition k by its number, where it is one of n and shares a rate.
-fn member(k: usize, n: usize, other: Rated, mine: Rated, out: &mut [u8], at: usize) -> usize
-    ensures { Puts (numbers (member_if k n other mine)) out.old at out.new result × (result ≤ at + 21) }
+fn member(k: usize, n: usize, other: &Rate, mine: &Rate, out: &mut [u8], at: usize) -> usize
+    ensures { Puts (numbers (member_if k n (told_rate other.now) (told_rate mine.now))) out.old at out.new result × (result ≤ at + 21) }
 {
-    if k < n {
-        if alike(other, mine) {
-            return words::number(words::wide_usize(k), out, at);
-        }
+    if k < n && alike(other, mine) {
+        return words::number(k as u64, out, at);
     }
     at
 }
 
 // The transitions that share the rate of v.
-pub fn members(rates: [Rated; 256], n: usize, v: usize, out: &mut [u8], at: usize) -> usize
+pub fn members(rates: &[Rate; 256], n: usize, v: usize, out: &mut [u8], at: usize) -> usize
     requires { v < 256 }
-    ensures { Puts (numbers (members_to rates n v 256)) out.old at out.new result × (result ≤ at + 21 * 256) }
+    ensures { Puts (numbers (members_to (told_rates rates.now) n v 256)) out.old at out.new result × (result ≤ at + 21 * 256) }
 {
-    let mine = rates[v];
     let mut next = at;
-    let mut k = 0;
-    while k < 256 {
-        let other = rates[k];
-        next = member(k, n, other, mine, out, next);
-        k += 1;
+    for (k, other) in rates.iter().enumerate() {
+        next = member(k, n, other, &rates[v], out, next);
     }
     next
 }

@@ -7,7 +7,5 @@ fn main(rt: HostRuntime) -> io::Result<()> {
     let mut file = [0u8; 16389];
     let n = input::read_full(&mut rt.reader(), &mut file)?;
     let text = text::report(&file[..n]);
-    let len = text.len;
-    let bytes = text.bytes;
-    rt.write_all(&bytes[..len])
+    rt.write_all(&text.bytes[..text.len])
 }

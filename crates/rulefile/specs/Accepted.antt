@@ -21,10 +21,8 @@ use Rattle.table.specs.Form.{unused_rule, sized, with_rule, rule_of, Unused, all
 use Rattle.table.specs.Fields.{DelayOk, RuleWithin, Within}
 use Rattle.table.specs.declared.Rule.{Rule}
 use Rattle.table.specs.declared.Table.{Table}
-use Rattle.rulefile.specs.declared.Num.{Num}
-use Rattle.rulefile.specs.declared.RuleRead.{RuleRead}
 use Rattle.rulefile.specs.declared.FileRead.{FileRead}
-use Rattle.rulefile.specs.File.{groups, delay_code, delay_meant, rule_bytes, rules_bytes, file_of, num_at, num_good, rule_bad_of, rule_good, rule_at_of, refused_read, rules_from_of, read_of}
+use Rattle.rulefile.specs.File.{groups, Num, RuleRead, delay_code, delay_meant, rule_bytes, rules_bytes, file_of, num_at, num_good, rule_bad_of, rule_good, rule_at_of, refused_read, rules_from_of, read_of}
 use Rattle.rulefile.specs.Steps.{num_split, then_split, drop_on, drop_fits, four_codes, rules_good, rules_bad, rules_tail, rules_end, file_codes}
 
 -- ---- a number

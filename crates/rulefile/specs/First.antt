@@ -13,8 +13,7 @@ use Rattle.sevens.specs.Laws.{cut_take, long_take}
 use Rattle.table.specs.Limits.{min_n, max_n, max_m, max_offset, max_delay}
 use Rattle.table.specs.Form.{with_rule}
 use Rattle.table.specs.declared.Table.{Table}
-use Rattle.rulefile.specs.declared.Num.{Num}
-use Rattle.rulefile.specs.File.{groups, rule_bytes, num_at, num_bad, and_then, rule_bad_of, rule_at_of, refused_read, rules_from_of, read_of}
+use Rattle.rulefile.specs.File.{groups, Num, rule_bytes, num_at, num_bad, and_then, rule_bad_of, rule_at_of, refused_read, rules_from_of, read_of}
 use Rattle.rulefile.specs.Steps.{num_cut, num_long, num_outside, num_value, then_stop, then_next, rules_good, rules_bad, rules_tail, rules_end}
 use Rattle.rulefile.specs.Length.{longest, small_code, middle_code, rule_length_lem}
 use Rattle.rulefile.specs.Accepted.{num_back, rule_back}

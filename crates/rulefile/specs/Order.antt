@@ -29,9 +29,8 @@ use Rattle.table.specs.Limits.{min_n, max_n, max_m, max_offset, max_delay}
 use Rattle.table.specs.Form.{sized, with_rule}
 use Rattle.table.specs.declared.Rule.{Rule}
 use Rattle.table.specs.declared.Table.{Table}
-use Rattle.rulefile.specs.declared.Num.{Num}
 use Rattle.rulefile.specs.declared.FileRead.{FileRead}
-use Rattle.rulefile.specs.File.{groups, delay_meant, num_at, rule_bad_of, rule_good, rule_at_of, refused_read, rules_from_of, read_of}
+use Rattle.rulefile.specs.File.{groups, Num, delay_meant, num_at, rule_bad_of, rule_good, rule_at_of, refused_read, rules_from_of, read_of}
 use Rattle.rulefile.specs.Steps.{num_cut, num_long, num_outside, num_cases, then_stop, then_next, rules_good, rules_bad, rules_tail, rules_end}
 
 -- ---- the numbers of a file

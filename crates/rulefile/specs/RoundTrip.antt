@@ -25,8 +25,7 @@ use Rattle.table.specs.Form.{empty_table, with_rule, Unused, SameRules, same_tab
 use Rattle.table.specs.Fields.{Within, within_or_first_bad}
 use Rattle.table.specs.declared.Table.{Table}
 use Rattle.rulefile.specs.declared.FileRead.{FileRead}
-use Rattle.rulefile.specs.declared.Written.{Written}
-use Rattle.rulefile.specs.File.{file_of, num_at, rule_at_of, refused_read, accepted_read, rules_from_of, read_of, written_as, Writes}
+use Rattle.rulefile.specs.File.{file_of, num_at, rule_at_of, refused_read, accepted_read, rules_from_of, read_of, Written, written_as, Writes}
 use Rattle.rulefile.specs.Steps.{then_split, rules_bad, rules_good, rules_tail, rules_end}
 use Rattle.rulefile.specs.Length.{longest, file_length_lem}
 use Rattle.rulefile.specs.Accepted.{IsFile, accepted_read_lem, accepted_is_file}

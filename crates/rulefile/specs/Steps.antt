@@ -1,14 +1,16 @@
 -- What the code's proofs cite: each step of reading and of writing, over plain variables. Assumes nothing.
 --
---   num_told, num_bad_lem, num_good_lem                    the number at a place, from what the number reader says of the part from there on
+--   num_inside, num_bad_lem, num_good_lem                    the number at a place, from what the number reader says of the part from there on
 --   num_cut, num_long, num_outside, num_value      the number at a place, by what stands there; num_cases: there are no other cases
 --   num_split, num_range                           a number is refused or read; one read is within its limits
+--   num_in                                         the same of the code's own result
 --   then_stop, then_next, then_split               a stage of a reading stops, goes on, does one of the two
+--   then_err, then_ok                              the first two, from the code's own result
 --   rules_bad, rules_good, rules_tail, rules_end   a turn of the reading loop, and its end
 --   four_codes, drop_on, drop_fits                 bytes one after the other
 --   put_fits, put_rule_lem, put_head, put_turn         what writing a number, a rule, the head and one more rule leave
 --   count_head, count_turn                         the same of counting
---   judged_within, wrote_range, length_left, wrote   each case of what writing promises
+--   judged_within, wrote                           what writing promises, where the table is within its limits
 use Prim.Native.Nat.{ℕ, zero, suc, ◌+◌, ◌-◌, ◌≤◌, ◌<◌}
 use Rattle.std.specs.Prelude.{◌≡◌, ◌⊎◌, drop, take}
 use Rattle.std.proofs.Math.Path.{refl, ap, sym, subst⁻¹}
@@ -25,17 +27,13 @@ use Rattle.sevens.specs.Sevens.{raw_of, cut_place_of, long_place_of, Answer, num
 use Rattle.sevens.specs.declared.Raw.TheVariants.{Cut, Long, Value}
 use Rattle.sevens.specs.Laws.{raw_size, number_cut, number_long, number_low, number_high, number_accepted, number_split, number_place, number_rest, number_within, put_room, put_none, put_left, sets_append, sets_front}
 use Rattle.table.specs.Form.{empty_table, sized, with_rule, rule_of}
-use Rattle.table.specs.Fields.{Within, Judged, first_bad_unique, within_not_bad}
-use Rattle.table.specs.declared.Checked.{Checked}
+use Rattle.table.specs.Fields.{Within, Judged, within_not_bad}
+use Rattle.refusals.specs.declared.Why.{Why}
+use Rattle.refusals.specs.Number.{Told, number_of as number_of_why, number_positive}
 use Rattle.table.specs.declared.Delay.{Delay}
-use Rattle.table.specs.declared.Delay.TheVariants.{Known}
 use Rattle.table.specs.declared.Rule.{Rule}
 use Rattle.table.specs.declared.Table.{Table}
-use Rattle.rulefile.specs.declared.Num.{Num}
-use Rattle.rulefile.specs.declared.RuleRead.{RuleRead}
-use Rattle.rulefile.specs.declared.FileRead.{FileRead}
-use Rattle.rulefile.specs.declared.Written.{Written}
-use Rattle.rulefile.specs.File.{groups, num_at, num_from, num_bad, num_good, and_then, delay_code, delay_meant, rule_bytes, rules_bytes, file_of, rule_good, rule_at_of, refused_read, accepted_read, rules_from_of, refused_write, written_as, Writes}
+use Rattle.rulefile.specs.File.{groups, Num, RuleRead, num_at, num_from, num_bad, num_good, and_then, delay_code, rule_bytes, rules_bytes, file_of, rule_good, rule_at_of, refused_read, accepted_read, rules_from_of, Written, refused_write, written_as, Writes}
 
 -- ---- a number at a place
 
@@ -48,8 +46,8 @@ module _ (s : List ℕ) (at low high v f p : ℕ) (r : List ℕ)
   whole : number_of groups (drop at s) low high ≡ record { value = v; refusal = f; place = p; rest = r }
   whole = rw (part_rest s at) at e
 
-  pub num_told : (p ≤ length s - at) × (length r ≤ length s - at)
-  num_told = (
+  pub num_inside : (p ≤ length s - at) × (length r ≤ length s - at)
+  num_inside = (
     omega (arith, length-drop at s, ap (λ (x : Answer). x.place) whole, number_place groups (drop at s) low high),
     omega (arith, length-drop at s, ap (λ (x : Answer). length x.rest) whole, number_rest groups (drop at s) low high),
   )
@@ -108,6 +106,13 @@ module _ {A : Type 0} (bad f : ℕ → ℕ → A) (x y : Num) (e : y ≡ x) wher
   unfolding and_then
   then_next h = simp (← e, le-ltb 0 y.refusal h)
 
+module _ {A : Type 0} (bad f : ℕ → ℕ → A) (x : Num) where
+  pub then_err : (w : Why) (place : ℕ) → num_bad (number_of_why w) place ≡ x → and_then bad x f ≡ bad (number_of_why w) place
+  then_err w place e = then_stop bad f x (num_bad (number_of_why w) place) e (number_positive w)
+
+  pub then_ok : (v next : ℕ) → num_good v next ≡ x → and_then bad x f ≡ f v next
+  then_ok v next e = then_next bad f x (num_good v next) e (omega arith)
+
 -- what holds of a stop and of going on holds of a stage
 pub then_split : {A : Type 0} (P : A → Type 0) (bad f : ℕ → ℕ → A) (x : Num)
     → (0 < x.refusal → P (bad x.refusal x.place)) → (x.refusal ≤ 0 → P (f x.value x.next)) → P (and_then bad x f)
@@ -141,11 +146,8 @@ num_range s at low high y e =
     (λ x f h g. absurd (omega arith))
     (λ x f h g. subst⁻¹ (λ (z : Answer). z.refusal ≡ 0 → (low ≤ z.value) × (z.value ≤ high)) f (number_within groups (drop at s) low high) h))
 
--- ---- delays
-
-pub delay_known : (code : ℕ) → (code ≡ 0 → ⊥) → delay_meant code ≡ Known (code - 1)
-delay_known zero h = absurd (h refl)
-delay_known (suc d) h = let e : d ≡ suc d - 1 = omega arith in ap Known e
+pub num_in : (s : List ℕ) (at low high v next : ℕ) → num_good v next ≡ num_at s at low high → (low ≤ v) × (v ≤ high)
+num_in s at low high v next e = num_range s at low high (num_good v next) e (omega arith)
 
 -- ---- a rule and the rules
 
@@ -176,10 +178,6 @@ module _ (s : List ℕ) (n : ℕ) (t : Table) (at r : ℕ) where
   unfolding rules_from_of
   rules_end zero e h = simp (le-ltb at (length s) h)
   rules_end (suc left) e h = absurd (omega arith)
-
--- a refusal that holds the table t
-abbrev pub refused_with : ℕ → ℕ → Table → FileRead
-refused_with number place t = record { refusal = number; place = place; table = t }
 
 pub sized_is : (n m w : ℕ) (t : Table) → w ≡ n → t ≡ empty_table → ◌≡◌ {A = Table} (record { n = w; m = m; rules = t.rules }) (sized n m)
 sized_is n m w t e f = cc
@@ -295,20 +293,9 @@ put_turn all t r left rest out next at to h so room e f =
 
 -- ---- what writing promises
 
-pub judged_within : (t : Table) (x : Checked) → Judged t x → x.refusal ≤ 0 → Within t
+pub judged_within : (t : Table) (x : Told) → Judged t x → x.refusal ≤ 0 → Within t
 judged_within t x (inl a) h = a.0
 judged_within t x (inr b) h = absurd (omega arith)
-
-pub wrote_range : (t : Table) (out : List ℕ) (x : Checked) → Judged t x → 0 < x.refusal → Writes t out (refused_write x.refusal x.place) out
-wrote_range t out x (inl a) h = absurd (omega arith)
-wrote_range t out x (inr b) h = record {
-  range = λ k f. (ap (λ n. refused_write n x.place) b.1 ∙ ap (refused_write 3) (first_bad_unique t x.place k b.0 f), refl);
-  room = λ w _. absurd (within_not_bad t x.place w b.0);
-  written = λ w _. absurd (within_not_bad t x.place w b.0);
-}
-
-pub length_left : (out after xs : List ℕ) → after ≡ sets out 0 xs → length after ≡ length out
-length_left out after xs e = ap length e ∙ length-sets out 0 xs
 
 -- what was answered, and what is left in the buffer, by the room that there was
 pub wrote : (t : Table) (out after : List ℕ) (count : ℕ) (x : Written) → Within t → count ≡ length (file_of t)

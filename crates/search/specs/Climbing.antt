@@ -17,8 +17,8 @@
 --   settling_zeros, settling_start, settling_ready, settling_carried, settling_scanned, settling_sound, settling_quiet, settling_found, settling_on            the loop of passes
 --   least_low                       the least values that keep every rule are low
 --   rising_start, rising_query, query_limits, rising_end, walk_loop, walk_turns, rising_walk, rising_less                           the loop of ratios
-use Rattle.std.specs.Prelude.{◌≡◌, refl, Bool, true, false, ◌⊎◌, List, [], ◌∷◌, ℕ, suc, ◌+◌, ◌*◌, ◌-◌, ◌/◌, ◌≤◌, ◌<◌, length, get_or, set, replicate}
-use Rattle.std.proofs.Common.{sym, ap, ◌∙◌, subst, true≢false, inl, inr, ⊎_elim, arith, le_trans, le_of_eq, mul-le-mul, mul-le-mul_left, mul-le-mul_right, lt_of_mul-lt-mul_right, div-le_self, add-one, length-set, get_or-set_same}
+use Rattle.std.specs.Prelude.{◌≡◌, refl, Bool, true, false, Option, Some, None as Nothing, ◌⊎◌, List, [], ◌∷◌, ℕ, suc, ◌+◌, ◌*◌, ◌-◌, ◌/◌, ◌≤◌, ◌<◌, length, get_or, set, replicate}
+use Rattle.std.proofs.Common.{sym, ap, subst, true≢false, inl, inr, ⊎_elim, arith, le_trans, le_of_eq, mul-le-mul, mul-le-mul_left, mul-le-mul_right, lt_of_mul-lt-mul_right, div-le_self, add-one, length-set, get_or-set_same}
 use Rattle.std.proofs.lemmas.Bool.{false≢true}
 use Rattle.std.proofs.Math.Logic.{by_cases}
 use Rattle.std.proofs.Math.Decide.{ℕ_discrete, dec_lt}
@@ -40,7 +40,8 @@ use Rattle.theory.specs.Raise.{Raised, raised_start, raised_most, Passing, passi
 use Rattle.theory.specs.Period.{climbs, schedule_above}
 use Rattle.theory.specs.Climb.{ClosedWalk, walk_some, closed_turns}
 use Rattle.columns.specs.Columns.{shape, delay_at, Limits, Short}
-use Rattle.search.specs.Search.{ParentLoop, Scanned, Passed, LowWalk, Settled, Reached}
+use Rattle.search.specs.Search.{ParentLoop, Scanned, Passed, LowWalk, LeastAt, Higher, Reached}
+use Rattle.search.specs.declared.scan.Walk.{Walk as Met}
 
 -- 2,048 rules, each by at most 3,840 times 1,000,000
 abbrev pub rise : ℕ
@@ -315,33 +316,23 @@ module _ {S : Shape} {D : ℕ → ℕ} {n P Q : ℕ} (query : Query S D n P Q) w
             }
 
         -- nothing rose: the least values that keep every rule
-        pub settling_quiet : f ≡ false → Settled S D P Q n x false 0 0
+        pub settling_quiet : f ≡ false → LeastAt S D P Q x
         settling_quiet e =
-            record {
-              keeps = λ z. passed.quiet e;
-              least = λ z. passed.raised.least;
-              walk = λ z. absurd (false≢true z);
-              above = λ z. absurd (false≢true z);
-            }
+            record { keeps = passed.quiet e; least = passed.raised.least; size = ended.x_room }
 
-        module _ {g : Bool} {a e : ℕ} (scanned : Scanned S D n par g a e) where
+        module _ {met : Option Met} (scanned : Scanned S D n par met) where
           -- the parents came round: that walk is above P/Q
-          pub settling_found : g ≡ true → Settled S D P Q n x g a e
-          settling_found t =
-              let w = scanned.some t in
-              record {
-                keeps = λ z. absurd (true≢false (sym t ∙ z));
-                least = λ z. absurd (true≢false (sym t ∙ z));
-                walk = λ z. walk_of w;
-                above = λ z. round w.at w.walk w.some_rule w.closed w.parents w.delays_are w.offsets_are;
-              }
+          pub settling_found : {w : Met} → met ≡ Some w → Higher S D P Q n w.delays w.offsets
+          settling_found {w} t =
+              let l = scanned.some w t in
+              record { walk = walk_of l; above = round l.at l.walk l.some_rule l.closed l.parents l.delays_are l.offsets_are }
             where
-              round : (u : ℕ) (rs : List ℕ) → 0 < length rs → Walk S u u rs → Parents S par rs → delays D rs ≡ a → offsets S rs ≡ e → P * e < Q * a
+              round : {a e : ℕ} (u : ℕ) (rs : List ℕ) → 0 < length rs → Walk S u u rs → Parents S par rs → delays D rs ≡ a → offsets S rs ≡ e → P * e < Q * a
               round u [] b c d ea ee = absurd (omega arith)
               round u (r ∷ rs) b c d ea ee = omega (arith, settling_sound.cycles u r rs c d, ap (λ t. Q * t) ea, ap (λ t. P * t) ee)
 
           -- they did not, though something rose: so this was not pass number n
-          pub settling_on : {x₂ par₂ : List ℕ} → f ≡ true → g ≡ false → Carried S D P Q x par x₂ par₂ → Settling S D P Q n x₂ par₂ (k + 1)
+          pub settling_on : {x₂ par₂ : List ℕ} → f ≡ true → met ≡ Nothing → Carried S D P Q x par x₂ par₂ → Settling S D P Q n x₂ par₂ (k + 1)
           settling_on {x₂} {par₂} t none again =
               rw (add-one k)
               (record {
@@ -420,16 +411,16 @@ module _ {S : Shape} {D : ℕ → ℕ} where
         attained = inl (refl, refl);
       }
 
-  module _ {P Q n : ℕ} {x : List ℕ} {f : Bool} {a e : ℕ} (rising : Rising S D P Q) (end : Settled S D P Q n x f a e) where
+  module _ {P Q n : ℕ} {x : List ℕ} (rising : Rising S D P Q) (end : LeastAt S D P Q x) where
     -- no closed walk is above P/Q
-    pub rising_end : Query S D n P Q → length x ≡ 256 → f ≡ false → Reached S D P Q x
-    rising_end query size z =
+    pub rising_end : Query S D n P Q → Reached S D P Q x
+    rising_end query =
         record {
-          climbed = record { q_pos = rising.q_pos; lowest = rising.lowest; keeps = end.keeps z; least = end.least z; attained = rising.attained };
+          climbed = record { q_pos = rising.q_pos; lowest = rising.lowest; keeps = end.keeps; least = end.least; attained = rising.attained };
           p_low = rising.p_low;
           q_low = rising.q_low;
-          size = size;
-          low = λ v. le_trans (least_low query x (end.keeps z) (end.least z) v) (mul-le-mul {n₁ = Q} {m₁ = (n - 1) * 1000000} {n₂ = 3840} {m₂ = 255000000} rising.q_low (omega (arith, query.few_transitions)));
+          size = end.size;
+          low = λ v. le_trans (least_low query x end.keeps end.least v) (mul-le-mul {n₁ = Q} {m₁ = (n - 1) * 1000000} {n₂ = 3840} {m₂ = 255000000} rising.q_low (omega (arith, query.few_transitions)));
         }
 
 -- a closed walk's quotient, in lowest terms, is a ratio to come to

@@ -8,24 +8,26 @@
 --   Room, Fresh                    == the lists have room; and a walk may start
 --   Walking ..                     == where a walk is: at v, with the sums a and e
 --   Turn ..                        == what one turn of it does; walking_start, turn
---   Sums S D n par x               == what was met, if anything, is a closed walk of parents
+--   Sums S D n par met             == what was met, if anything, is a closed walk of parents
 --   Walked ..                      == what a walk leaves: it came round, or all that it passed is grounded; walked_loop, walked_root, walked_met
---   Low a e, Kept x y r            == sums that can be multiplied, and the better of two that were met; kept_left, kept_right
+--   Low a e, Kept x y r            == sums that can be multiplied, and the better of two that were met; kept_left, kept_right, kept_one
 --   Looked ..                      == what the first k walks leave; looked_start, looked_next, looked_on, looked_all
-use Rattle.std.specs.Prelude.{◌≡◌, Bool, true, false, ◌⊎◌, List, [], ◌∷◌, length, get_or, set, replicate}
+use Rattle.std.specs.Prelude.{◌≡◌, Option, Some, None, ◌⊎◌, List, [], ◌∷◌, length, get_or, set, replicate}
+use Rattle.std.specs.Option.{ForSome}
 use Rattle.std.proofs.Math.Path.{refl, ap}
 use Rattle.std.proofs.Common.{inl, inr, ⊎_elim, arith, length-set, get_or-set_other}
 use Rattle.std.proofs.Math.Logic.{by_cases}
 use Prim.Native.Nat.{ℕ, zero, suc, ◌+◌, ◌*◌, ◌-◌, ◌≤◌, ◌<◌}
 use Rattle.std.proofs.Math.Decide.{ℕ_discrete}
 use Rattle.std.proofs.lemmas.List.{length-replicate}
+use Rattle.std.proofs.lemmas.Option.{same_Some}
 use Rattle.std.proofs.Math.Seq.{get_or-set_same}
 use Rattle.model.specs.Shape.{Shape, Fits}
 use Rattle.model.specs.Sums.{delays, offsets}
 use Rattle.model.specs.Walk.{Walk}
 use Rattle.theory.specs.Relax.{zeros_at}
 use Rattle.theory.specs.Parents.{Parents, Grounded, grounded_root, grounded_step}
-use Rattle.search.specs.declared.scan.Met.{Met}
+use Rattle.search.specs.declared.scan.Walk.{Walk as Met}
 use Rattle.columns.specs.Columns.{shape, delay_at, Limits, Short}
 use Rattle.search.specs.Search.{Valid, ParentLoop, Scanned}
 
@@ -120,30 +122,17 @@ pub record Turn (S : Shape) (D : ℕ → ℕ) (n : ℕ) (par : List ℕ) (from n
   pub less : unstamped (set stamp v number) n < unstamped stamp n
   pub on : (u : ℕ) → u ≡ S.source r → Walking S D n par from number stamp₀ (set stamp v number) (set delays' v a) (set offsets' v e) u (a + D r) (e + S.offset r)
 
--- what was met, if anything was, is a closed walk of parents; its sums are low in any case
-pub record Sums (S : Shape) (D : ℕ → ℕ) (n : ℕ) (par : List ℕ) (x : Met) : Type 0 where
-  pub some : x.found ≡ true → ParentLoop S D par n x.delays x.offsets
-  pub delays_low : x.delays ≤ n * 1000000
-  pub offsets_low : x.offsets ≤ n * 15
+-- what was met, if anything was, is a closed walk of parents
+abbrev pub Sums : Shape → (ℕ → ℕ) → ℕ → List ℕ → Option Met → Type 0
+Sums S D n par met = ForSome met (λ w. ParentLoop S D par n w.delays w.offsets)
 
 -- what a walk from `from` leaves, and what it met
-pub record Walked (S : Shape) (D : ℕ → ℕ) (n : ℕ) (par : List ℕ) (from number : ℕ) (stamp₀ stamp delays' offsets' : List ℕ) (x : Met) : Type 0 where
+pub record Walked (S : Shape) (D : ℕ → ℕ) (n : ℕ) (par : List ℕ) (from number : ℕ) (stamp₀ stamp delays' offsets' : List ℕ) (met : Option Met) : Type 0 where
   pub room : Room stamp delays' offsets'
   pub low : (w : ℕ) → get_or stamp w 0 ≤ number
-  pub sums : Sums S D n par x
-  pub none : x.found ≡ false → ((w : ℕ) → 0 < get_or stamp₀ w 0 → Grounded S n par w)
+  pub sums : Sums S D n par met
+  pub none : met ≡ None → ((w : ℕ) → 0 < get_or stamp₀ w 0 → Grounded S n par w)
       → Grounded S n par from × ((w : ℕ) → 0 < get_or stamp w 0 → Grounded S n par w)
-
--- a flag is not both
-clash : (b : Bool) → b ≡ true → b ≡ false → ⊥
-clash b t f = let z : ◌≡◌ {A = ℕ} 0 1 = cc in omega arith
-
--- nothing was met
-abbrev pub nothing_met : Met
-nothing_met = record { found = false; delays = 0; offsets = 0 }
-
-nothing_met_lem : (S : Shape) (D : ℕ → ℕ) (n : ℕ) (par : List ℕ) → Sums S D n par nothing_met
-nothing_met_lem S D n par = record { some = λ t. absurd (clash false t refl); delays_low = omega arith; offsets_low = omega arith }
 
 module _ (S : Shape) (D : ℕ → ℕ) (n : ℕ) (par : List ℕ) (from number : ℕ) (stamp₀ : List ℕ) where
   pub walking_start : (delays' offsets' : List ℕ) → Fresh n from number stamp₀ delays' offsets' → Walking S D n par from number stamp₀ stamp₀ delays' offsets' from 0 0
@@ -168,35 +157,26 @@ module _ (S : Shape) (D : ℕ → ℕ) (n : ℕ) (par : List ℕ) (from number :
 
     -- at its own stamp: it came round
     pub walked_loop : ((w : ℕ) → get_or stamp₀ w 0 < number) → get_or stamp v 0 ≡ number → (a' e' : ℕ) → a' ≡ a - get_or delays' v 0 → e' ≡ e - get_or offsets' v 0
-        → Walked S D n par from number stamp₀ stamp delays' offsets' (record { found = true; delays = a'; offsets = e' })
+        → Walked S D n par from number stamp₀ stamp delays' offsets' (Some (record { delays = a'; offsets = e' }))
     walked_loop above m a' e' p q =
         let b = at.back v m in
         record {
           room = at.room;
           low = low' above;
-          sums = record {
-            some = λ _. record {
-              at = v;
-              walk = b.walk;
-              some_rule = b.some_rule;
-              closed = b.walks;
-              parents = b.parents;
-              delays_are = omega (arith, b.delays_are, p);
-              offsets_are = omega (arith, b.offsets_are, q);
-              delays_low = delays_low;
-              offsets_low = offsets_low;
-            };
-            delays_low = delays_low;
-            offsets_low = offsets_low;
-          };
-          none = λ f. absurd (clash true refl f);
+          sums = λ w s. rw (← same_Some _ _ s)
+              (record {
+                at = v;
+                walk = b.walk;
+                some_rule = b.some_rule;
+                closed = b.walks;
+                parents = b.parents;
+                delays_are = omega (arith, b.delays_are, p);
+                offsets_are = omega (arith, b.offsets_are, q);
+                delays_low = omega (arith, at.delay_room, p);
+                offsets_low = omega (arith, at.offset_room, q);
+              });
+          none = λ f. absurd cc;
         }
-      where
-        delays_low : a' ≤ n * 1000000
-        delays_low = omega (arith, at.delay_room, p)
-
-        offsets_low : e' ≤ n * 15
-        offsets_low = omega (arith, at.offset_room, q)
 
     -- from a grounded transition everything that the walk passed is grounded
     all_grounded : Grounded S n par v → ((w : ℕ) → 0 < get_or stamp₀ w 0 → Grounded S n par w) → Grounded S n par from × ((w : ℕ) → 0 < get_or stamp w 0 → Grounded S n par w)
@@ -206,15 +186,15 @@ module _ (S : Shape) (D : ℕ → ℕ) (n : ℕ) (par : List ℕ) (from number :
         on w m = let b = at.back w m in grounded_step S n par v w b.walk g b.walks b.parents
 
     walked_none : ((w : ℕ) → get_or stamp₀ w 0 < number) → (((w : ℕ) → 0 < get_or stamp₀ w 0 → Grounded S n par w) → Grounded S n par v)
-        → Walked S D n par from number stamp₀ stamp delays' offsets' nothing_met
+        → Walked S D n par from number stamp₀ stamp delays' offsets' None
     walked_none above g =
-        record { room = at.room; low = low' above; sums = nothing_met_lem S D n par; none = λ f old. all_grounded (g old) old }
+        record { room = at.room; low = low' above; sums = λ w s. absurd cc; none = λ f old. all_grounded (g old) old }
 
     -- at a transition without a parent, or at the stamp of an earlier walk
-    pub walked_root : ((w : ℕ) → get_or stamp₀ w 0 < number) → get_or par v 0 ≡ 0 → Walked S D n par from number stamp₀ stamp delays' offsets' nothing_met
+    pub walked_root : ((w : ℕ) → get_or stamp₀ w 0 < number) → get_or par v 0 ≡ 0 → Walked S D n par from number stamp₀ stamp delays' offsets' None
     walked_root above e = walked_none above (λ old. grounded_root S n par v at.here e)
 
-    pub walked_met : ((w : ℕ) → get_or stamp₀ w 0 < number) → 0 < get_or stamp v 0 → ¬ (get_or stamp v 0 ≡ number) → Walked S D n par from number stamp₀ stamp delays' offsets' nothing_met
+    pub walked_met : ((w : ℕ) → get_or stamp₀ w 0 < number) → 0 < get_or stamp v 0 → ¬ (get_or stamp v 0 ≡ number) → Walked S D n par from number stamp₀ stamp delays' offsets' None
     walked_met above b d = walked_none above (λ old. ⊎_elim (λ s. old v (rw s at b)) (λ m. absurd (d m)) (at.kept v))
 
 module _ (S : Shape) (D : ℕ → ℕ) (n : ℕ) (par : List ℕ) (ready : Ready S D n par) (from number : ℕ) (stamp₀ : List ℕ) where
@@ -302,45 +282,48 @@ pub record Low (a e : ℕ) : Type 0 where
   pub delays_low : a ≤ 256000000
   pub offsets_low : e ≤ 3840
 
--- one of the two is kept, and one that was found if there is one
-pub record Kept (x y r : Met) : Type 0 where
+-- one of the two is kept, and one that was met if there is one
+pub record Kept (x y r : Option Met) : Type 0 where
   pub either : (r ≡ x) ⊎ (r ≡ y)
-  pub left : r.found ≡ false → x.found ≡ false
-  pub right : r.found ≡ false → y.found ≡ false
+  pub left : r ≡ None → x ≡ None
+  pub right : r ≡ None → y ≡ None
 
-pub kept_left : (x y : Met) → (y.found ≡ false) ⊎ (x.found ≡ true) → Kept x y x
-kept_left x y w = record { either = inl refl; left = λ f. f; right = λ f. ⊎_elim (λ g. g) (λ t. absurd (clash x.found t f)) w }
+pub kept_left : {x y r : Option Met} → y ≡ None → r ≡ x → Kept x y r
+kept_left n e = record { either = inl e; left = λ f. cc; right = λ f. n }
 
-pub kept_right : (x y : Met) → y.found ≡ true → Kept x y y
-kept_right x y t = record { either = inr refl; left = λ f. absurd (clash y.found t f); right = λ f. f }
+pub kept_right : {x y r : Option Met} {w : Met} → y ≡ Some w → r ≡ y → Kept x y r
+kept_right t e = record { either = inr e; left = λ f. absurd cc; right = λ f. cc }
+
+pub kept_one : {x y r : Option Met} {v w u : Met} → x ≡ Some v → y ≡ Some w → r ≡ Some u → (u ≡ v) ⊎ (u ≡ w) → Kept x y r
+kept_one s t e which = record { either = ⊎_elim (λ u. inl cc) (λ u. inr cc) which; left = λ f. absurd cc; right = λ f. absurd cc }
 
 -- what the walks from the first k transitions leave, and the closed walk that is kept
-pub record Looked (S : Shape) (D : ℕ → ℕ) (n : ℕ) (par : List ℕ) (k : ℕ) (stamp delays' offsets' : List ℕ) (x : Met) : Type 0 where
+pub record Looked (S : Shape) (D : ℕ → ℕ) (n : ℕ) (par : List ℕ) (k : ℕ) (stamp delays' offsets' : List ℕ) (met : Option Met) : Type 0 where
   pub inside : k ≤ n
   pub room : Room stamp delays' offsets'
   pub low : (w : ℕ) → get_or stamp w 0 ≤ k
-  pub sums : Sums S D n par x
-  pub none : x.found ≡ false → ((w : ℕ) → w < k → Grounded S n par w) × ((w : ℕ) → 0 < get_or stamp w 0 → Grounded S n par w)
+  pub sums : Sums S D n par met
+  pub none : met ≡ None → ((w : ℕ) → w < k → Grounded S n par w) × ((w : ℕ) → 0 < get_or stamp w 0 → Grounded S n par w)
 
 module _ (S : Shape) (D : ℕ → ℕ) (n : ℕ) (par : List ℕ) where
-  pub looked_start : Looked S D n par 0 (replicate 256 0) (replicate 256 0) (replicate 256 0) nothing_met
+  pub looked_start : Looked S D n par 0 (replicate 256 0) (replicate 256 0) (replicate 256 0) None
   looked_start =
       record {
         inside = omega arith;
         room = record { stamps = length-replicate {A = ℕ} 256 0; delay_sums = length-replicate {A = ℕ} 256 0; offset_sums = length-replicate {A = ℕ} 256 0 };
         low = λ w. omega (arith, zeros_at 256 w);
-        sums = nothing_met_lem S D n par;
+        sums = λ w s. absurd cc;
         none = λ f. (λ w b. absurd (omega (arith, b)), λ w b. absurd (omega (arith, b, zeros_at 256 w)));
       }
 
-  module _ (k number : ℕ) (stamp delays' offsets' : List ℕ) (x : Met) (l : Looked S D n par k stamp delays' offsets' x) (left : k < n) (next : number ≡ k + 1) where
+  module _ (k : ℕ) (stamp delays' offsets' : List ℕ) (met : Option Met) (l : Looked S D n par k stamp delays' offsets' met) (left : k < n) where
     -- the next walk may start
-    pub looked_next : n ≤ 256 → Fresh n k number stamp delays' offsets'
+    pub looked_next : n ≤ 256 → Fresh n k (k + 1) stamp delays' offsets'
     looked_next few = record { few = few; from_below = left; counted = omega arith; above = λ w. omega (arith, l.low w); room = l.room }
 
     -- ONE WALK MORE
-    pub looked_on : (stamp' delays'' offsets'' : List ℕ) (y r : Met) → Walked S D n par k number stamp stamp' delays'' offsets'' y → Kept x y r
-        → Looked S D n par (k + 1) stamp' delays'' offsets'' r
+    pub looked_on : (stamp' delays'' offsets'' : List ℕ) (y r : Option Met) → Walked S D n par k (k + 1) stamp stamp' delays'' offsets'' y
+        → Kept met y r → Looked S D n par (k + 1) stamp' delays'' offsets'' r
     looked_on stamp' delays'' offsets'' y r w kept =
         record {
           inside = omega arith;
@@ -350,12 +333,12 @@ module _ (S : Shape) (D : ℕ → ℕ) (n : ℕ) (par : List ℕ) where
           none = λ f. let old = l.none (kept.left f) in let new = w.none (kept.right f) old.1 in (λ v b. by_cases (ℕ_discrete v k) (λ s. rw s new.0) (λ d. old.0 v (omega arith)), new.1);
         }
 
-  pub looked_all : (k : ℕ) (stamp delays' offsets' : List ℕ) (x : Met) → Looked S D n par k stamp delays' offsets' x → n ≤ k → Scanned S D n par x.found x.delays x.offsets
-  looked_all k stamp delays' offsets' x l all = record { some = l.sums.some; none = λ f v b. (l.none f).0 v (omega arith) }
+  pub looked_all : (k : ℕ) (stamp delays' offsets' : List ℕ) (met : Option Met) → Looked S D n par k stamp delays' offsets' met → n ≤ k → Scanned S D n par met
+  looked_all k stamp delays' offsets' met l all = record { some = l.sums; none = λ f v b. (l.none f).0 v (omega arith) }
 
--- sums over at most 256 rules are low
-pub sums_low : (S : Shape) (D : ℕ → ℕ) (n : ℕ) (par : List ℕ) (x : Met) → Sums S D n par x → n ≤ 256 → Low x.delays x.offsets
-sums_low S D n par x s few = record { delays_low = omega (arith, s.delays_low); offsets_low = omega (arith, s.offsets_low) }
+  -- sums over at most 256 rules are low
+  pub sums_low : (met : Option Met) (w : Met) → Sums S D n par met → met ≡ Some w → n ≤ 256 → Low w.delays w.offsets
+  sums_low met w s is few = let l = s w is in record { delays_low = omega (arith, l.delays_low); offsets_low = omega (arith, l.offsets_low) }
 
 -- the columns of a checked table are ready
 pub ready : (source target offset delay par : List ℕ) (m n : ℕ) → (Limits source target offset m n) × (Short delay m) × (Valid (shape source target offset m) par)

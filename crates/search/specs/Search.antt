@@ -2,13 +2,16 @@
 --
 --   Valid S par                   == par holds 1 more than the number of a rule into the transition, or 0
 --   ParentLoop S D par n a e      == a closed walk of parents, not empty, of delay sum a and offset sum e
---   Scanned S D n par f a e       == what a look at all parents finds: such a walk (f), or every transition is grounded
+--   Scanned S D n par met         == what a look at all parents finds: such a walk, or every transition is grounded
 --   Passed S D P Q c k x₀ x par f == a pass from x₀ to x, the one after k passes, that raised something (f) or nothing
 --   LowWalk S D n a e             == a closed walk, not empty, with sums that n rules can have
---   Started S D n f a e           == such a walk, where one was found (f)
---   Settled S D P Q n x f a e     == the search at P/Q ended: with the least values that keep every rule, or with a closed walk above P/Q (f)
+--   Started S D n met             == such a walk, where one was found
+--   LeastAt S D P Q x             == the values x keep every rule at P/Q, and are the least that do
+--   Higher S D P Q n a e          == a low walk above P/Q
+--   Settled S D P Q n x met       == the search at P/Q ended: with the least values, or with such a walk
 --   Reached S D P Q x             == the climb ended at P/Q, with the values x
-use Rattle.std.specs.Prelude.{◌≡◌, Bool, true, false, List, ℕ, suc, ◌*◌, ◌≤◌, ◌<◌, length, get_or}
+use Rattle.std.specs.Prelude.{◌≡◌, Bool, true, false, Option, List, ℕ, suc, ◌*◌, ◌≤◌, ◌<◌, length, get_or}
+use Rattle.std.specs.Option.{ForSome, ForNone}
 use Rattle.model.specs.Shape.{Shape}
 use Rattle.model.specs.Sums.{delays, offsets}
 use Rattle.model.specs.Walk.{Walk}
@@ -17,6 +20,7 @@ use Rattle.theory.specs.Relax.{Below}
 use Rattle.theory.specs.Parents.{Parents, Grounded}
 use Rattle.theory.specs.Raise.{Raised}
 use Rattle.theory.specs.Climb.{ClosedWalk, Climbed}
+use Rattle.search.specs.declared.scan.Walk.{Walk as Met}
 
 abbrev pub Valid : Shape → List ℕ → Type 0
 Valid S par = (v r : ℕ) → get_or par v 0 ≡ suc r → (r < S.rules) × (S.target r ≡ v)
@@ -32,9 +36,9 @@ pub record ParentLoop (S : Shape) (D : ℕ → ℕ) (par : List ℕ) (n a e : �
   pub delays_low : a ≤ n * 1000000
   pub offsets_low : e ≤ n * 15
 
-pub record Scanned (S : Shape) (D : ℕ → ℕ) (n : ℕ) (par : List ℕ) (f : Bool) (a e : ℕ) : Type 0 where
-  pub some : f ≡ true → ParentLoop S D par n a e
-  pub none : f ≡ false → (v : ℕ) → v < n → Grounded S n par v
+pub record Scanned (S : Shape) (D : ℕ → ℕ) (n : ℕ) (par : List ℕ) (met : Option Met) : Type 0 where
+  pub some : ForSome met (λ w. ParentLoop S D par n w.delays w.offsets)
+  pub none : ForNone met ((v : ℕ) → v < n → Grounded S n par v)
 
 -- no value is above c afterwards
 pub record Passed (S : Shape) (D : ℕ → ℕ) (P Q c k : ℕ) (x₀ x par : List ℕ) (f : Bool) : Type 0 where
@@ -47,14 +51,21 @@ pub record LowWalk (S : Shape) (D : ℕ → ℕ) (n a e : ℕ) : Type 0 where
   pub delays_low : a ≤ n * 1000000
   pub offsets_low : e ≤ n * 15
 
-pub record Started (S : Shape) (D : ℕ → ℕ) (n : ℕ) (f : Bool) (a e : ℕ) : Type 0 where
-  pub walk : f ≡ true → LowWalk S D n a e
+abbrev pub Started : Shape → (ℕ → ℕ) → ℕ → Option Met → Type 0
+Started S D n met = ForSome met (λ w. LowWalk S D n w.delays w.offsets)
 
-pub record Settled (S : Shape) (D : ℕ → ℕ) (P Q n : ℕ) (x : List ℕ) (f : Bool) (a e : ℕ) : Type 0 where
-  pub keeps : f ≡ false → Keeps S D P Q x
-  pub least : f ≡ false → (Y : List ℕ) → Keeps S D P Q Y → Below x Y
-  pub walk : f ≡ true → LowWalk S D n a e
-  pub above : f ≡ true → P * e < Q * a
+pub record LeastAt (S : Shape) (D : ℕ → ℕ) (P Q : ℕ) (x : List ℕ) : Type 0 where
+  pub keeps : Keeps S D P Q x
+  pub least : (Y : List ℕ) → Keeps S D P Q Y → Below x Y
+  pub size : length x ≡ 256
+
+pub record Higher (S : Shape) (D : ℕ → ℕ) (P Q n a e : ℕ) : Type 0 where
+  pub walk : LowWalk S D n a e
+  pub above : P * e < Q * a
+
+pub record Settled (S : Shape) (D : ℕ → ℕ) (P Q n : ℕ) (x : List ℕ) (met : Option Met) : Type 0 where
+  pub quiet : ForNone met (LeastAt S D P Q x)
+  pub walk : ForSome met (λ w. Higher S D P Q n w.delays w.offsets)
 
 -- no value is above the delays of 255 rules, times 3,840
 pub record Reached (S : Shape) (D : ℕ → ℕ) (P Q : ℕ) (x : List ℕ) : Type 0 where

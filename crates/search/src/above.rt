@@ -1,12 +1,12 @@
 // The ratio to start from. At a ratio that no loop is above, each transition takes the rule that asks most of it; where the parents so chosen come round
 // they have one of the best quotients, and most often the best.
-ghost use Rattle.std.specs.Prelude.{◌≡◌, ◌⊎◌, ℕ, ◌≤◌};
-ghost use Rattle.columns.specs.Columns.{shape, delay_at, Limits, Short};
+ghost use Rattle.std.specs.Prelude.{◌≡◌, ◌⊎◌};
+ghost use Rattle.columns.specs.Views.{of_filled, delays_of};
 ghost use Rattle.search.specs.Search.{Started};
-ghost use Rattle.search.specs.Above.{lift, Bids, Bid};
+ghost use Rattle.search.specs.Above.{Bids, Bid};
 
-use crate::scan::Met;
-use columns::wide;
+use crate::scan::{self, Walk};
+use columns::Filled;
 
 // The ratio tried, for 1 turn: 256 delays of 1,000,000.
 const TURN: u64 = 256000000;
@@ -14,17 +14,8 @@ const TURN: u64 = 256000000;
 // Values are kept 15 turns higher than they are, so that none is below 0.
 const LIFT: u64 = 3840000000;
 
-// What a transition has: at least 0.
-fn lifted(value: u64) -> u64
-    ensures { (lift ≤ result) × ((b : ℕ) → lift ≤ b → value ≤ b → result ≤ b) }
-{
-    if value < LIFT {
-        return LIFT;
-    }
-    value
-}
-
 // The larger of two values. This and the next are chosen without a branch, which the machine would often guess wrongly.
+// Not `x.max(y)`: with it the next is compiled to a branch, and the climb is slower.
 fn larger(x: u64, y: u64) -> u64
     ensures { (result ≡ x) ⊎ (result ≡ y) }
 {
@@ -43,46 +34,40 @@ fn bid(i: usize, s: u16, t: u16, e: u16, a: u32, most: &mut [u64; 256], par: &mu
     requires { Bids i s t e a most.old }
     ensures { Bid i s t most.old par.old most.new par.new }
 {
-    let from = s as usize;
-    let to = t as usize;
-    let asked = lifted(most[from]) + (a as u64) + 1 - TURN * (e as u64);
-    let new = (i + 1) as u16;
+    let from = usize::from(s);
+    let to = usize::from(t);
+    let asked = most[from].max(LIFT) + u64::from(a) + 1 - TURN * u64::from(e);
     let had = most[to];
     most[to] = larger(had, asked);
-    par[to] = parent(had, asked, par[to], new);
+    par[to] = parent(had, asked, par[to], (i + 1) as u16);
 }
 
 // The parents so chosen, and a closed walk of them, where there is one.
 #[derive(Clone, Copy)]
 pub struct Parents {
-    pub met: Met,
+    pub met: Option<Walk>,
     pub par: [u16; 256],
 }
 
-pub fn start(
-    source: &[u16; 2048],
-    target: &[u16; 2048],
-    offset: &[u16; 2048],
-    delay: &[u32; 2048],
-    order: &[u16; 2048],
-    m: usize,
-    n: usize,
-) -> Parents
-    requires { (Limits source.now target.now offset.now m n) × (Short delay.now m) }
-    ensures { Started (shape source.now target.now offset.now m) (delay_at delay.now) n result.met.found result.met.delays result.met.offsets }
+pub fn start(rules: &Filled<'_>, order: &[u16; 2048]) -> Parents
+    ensures { Started (of_filled rules.now) (delays_of rules.now) rules.now.n result.met }
 {
-    let mut most = [0u64; 256];
-    let mut par = [0u16; 256];
-    let mut k = 0;
-    while k < m {
-        let i = wide(order[k]);
-        if i < m {
+    let mut most = [0; 256];
+    let mut par = [0; 256];
+    for &rule in &order[..rules.m] {
+        let i = usize::from(rule);
+        if i < rules.m {
             bid(
-                i, source[i], target[i], offset[i], delay[i], &mut most, &mut par,
+                i,
+                rules.source[i],
+                rules.target[i],
+                rules.offset[i],
+                rules.delay[i],
+                &mut most,
+                &mut par,
             );
         }
-        k += 1;
     }
-    let met = crate::scan::scan(source, target, offset, delay, m, n, &par);
-    Parents { met: met, par: par }
+    let met = scan::scan(rules, &par);
+    Parents { met, par }
 }

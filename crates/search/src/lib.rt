@@ -1,40 +1,31 @@
 // The climb from ratio to ratio: passes over the rules until nothing rises, or a closed walk above the ratio is found.
-// x holds the values of the transitions; par 1 more than the number of the rule that last raised each, and 0 for none.
+// x holds the values of the transitions; par 1 more than the number of the rule that last raised each, and 0 for none: two bytes for each, in fixed memory.
 #![tactic(auto)]
 
 mod above;
 mod order;
 mod scan;
 
-ghost use Rattle.std.specs.Prelude.{◌≡◌, true, ◌*◌, ◌≤◌, ◌<◌, length};
+ghost use Rattle.std.specs.Prelude.{◌≡◌, true, ◌*◌, ◌≤◌, ◌<◌, length, get_or};
 ghost use Rattle.model.specs.Loop.{SomeLoop, Live};
 ghost use Rattle.theory.specs.Ratio.{IsGcd};
-ghost use Rattle.columns.specs.Columns.{shape, delay_at, Limits, Short};
+ghost use Rattle.columns.specs.Views.{of_filled, delays_of};
 ghost use Rattle.search.specs.Search.{Settled, Reached};
 ghost use Rattle.search.specs.Climbing.{Asks, Risen, Query, Ready, Ended, Carried, Quotient};
 
-use columns::wide;
-use scan::Met;
+use columns::Filled;
+use scan::Walk;
 
-// Rule i, from s to t with offset e and delay a, raises its target to what it asks at p/q, and is then its parent.
-fn raise(
-    i: usize,
-    s: u16,
-    t: u16,
-    e: u16,
-    a: u32,
-    p: u64,
-    q: u64,
-    x: &mut [u64; 256],
-    par: &mut [u16; 256],
-) -> bool
-    requires { Asks i s t (q * a) (p * e) x.old }
-    ensures { Risen i s t (q * a) (p * e) x.old par.old x.new par.new result }
+// Rule i raises its target to what it asks at the ratio, and is then its parent.
+fn raise(rules: &Filled<'_>, i: usize, at: Ratio, x: &mut [u64; 256], par: &mut [u16; 256]) -> bool
+    requires below { i < rules.now.m }
+    requires asks { Asks i (get_or rules.now.source.now i 0) (get_or rules.now.target.now i 0) (at.q * get_or rules.now.delay.now i 0) (at.p * get_or rules.now.offset.now i 0) x.old }
+    ensures { Risen i (get_or rules.now.source.now i 0) (get_or rules.now.target.now i 0) (at.q * get_or rules.now.delay.now i 0) (at.p * get_or rules.now.offset.now i 0) x.old par.old x.new par.new result }
 {
-    let from = s as usize;
-    let to = t as usize;
-    let asked = x[from] + q * (a as u64);
-    let less = p * (e as u64);
+    let from = usize::from(rules.source[i]);
+    let to = usize::from(rules.target[i]);
+    let asked = x[from] + at.q * u64::from(rules.delay[i]);
+    let less = at.p * u64::from(rules.offset[i]);
     if asked <= x[to] + less {
         return false;
     }
@@ -44,144 +35,76 @@ fn raise(
 }
 
 // Every rule once, in the file's order. Tells whether something rose.
-fn pass(
-    source: &[u16; 2048],
-    target: &[u16; 2048],
-    offset: &[u16; 2048],
-    delay: &[u32; 2048],
-    m: usize,
-    p: u64,
-    q: u64,
-    x: &mut [u64; 256],
-    par: &mut [u16; 256],
-) -> bool
-    requires { Ready (shape source.now target.now offset.now m) (delay_at delay.now) p q x.old par.old }
-    ensures { Ended (shape source.now target.now offset.now m) (delay_at delay.now) p q x.old par.old x.new par.new result }
+fn pass(rules: &Filled<'_>, at: Ratio, x: &mut [u64; 256], par: &mut [u16; 256]) -> bool
+    requires { Ready (of_filled rules.now) (delays_of rules.now) at.p at.q x.old par.old }
+    ensures { Ended (of_filled rules.now) (delays_of rules.now) at.p at.q x.old par.old x.new par.new result }
 {
     let mut changed = false;
-    let mut i = 0;
-    while i < m {
-        if raise(i, source[i], target[i], offset[i], delay[i], p, q, x, par) {
+    for i in 0..rules.m {
+        if raise(rules, i, at, x, par) {
             changed = true;
         }
-        i += 1;
     }
     changed
 }
 
-// The first `len` rules of a list. Values may rise in any order: what it names twice, or leaves out, does no harm.
-fn carry(
-    source: &[u16; 2048],
-    target: &[u16; 2048],
-    offset: &[u16; 2048],
-    delay: &[u32; 2048],
-    rules: &[u16; 2048],
-    len: usize,
-    m: usize,
-    p: u64,
-    q: u64,
-    x: &mut [u64; 256],
-    par: &mut [u16; 256],
-)
-    requires { (len ≤ 2048) × Ready (shape source.now target.now offset.now m) (delay_at delay.now) p q x.old par.old }
-    ensures { Carried (shape source.now target.now offset.now m) (delay_at delay.now) p q x.old par.old x.new par.new }
+// The rules of a list. Values may rise in any order: what it names twice, or leaves out, does no harm.
+fn carry(rules: &Filled<'_>, list: &[u16], at: Ratio, x: &mut [u64; 256], par: &mut [u16; 256])
+    requires { (length list.now ≤ 2048) × Ready (of_filled rules.now) (delays_of rules.now) at.p at.q x.old par.old }
+    ensures { Carried (of_filled rules.now) (delays_of rules.now) at.p at.q x.old par.old x.new par.new }
 {
-    let mut k = 0;
-    while k < len {
-        let i = wide(rules[k]);
-        if i < m {
-            raise(i, source[i], target[i], offset[i], delay[i], p, q, x, par);
+    for &rule in list {
+        let i = usize::from(rule);
+        if i < rules.m {
+            raise(rules, i, at, x, par);
         }
-        k += 1;
     }
 }
 
 // The rules that are parents, from their roots on.
 fn follow(
-    source: &[u16; 2048],
-    target: &[u16; 2048],
-    offset: &[u16; 2048],
-    delay: &[u32; 2048],
-    m: usize,
-    n: usize,
+    rules: &Filled<'_>,
     parents: &[u16; 256],
-    p: u64,
-    q: u64,
+    at: Ratio,
     x: &mut [u64; 256],
     par: &mut [u16; 256],
 )
-    requires { (Limits source.now target.now offset.now m n) × Ready (shape source.now target.now offset.now m) (delay_at delay.now) p q x.old par.old }
-    ensures { Carried (shape source.now target.now offset.now m) (delay_at delay.now) p q x.old par.old x.new par.new }
+    requires { Ready (of_filled rules.now) (delays_of rules.now) at.p at.q x.old par.old }
+    ensures { Carried (of_filled rules.now) (delays_of rules.now) at.p at.q x.old par.old x.new par.new }
 {
-    let list = order::roots_first(source, target, offset, m, n, parents);
-    let rules = list.rules;
-    carry(
-        source, target, offset, delay, &rules, list.len, m, p, q, x, par,
-    );
-}
-
-// How the search at one ratio ended: with the values x, or with a closed walk above the ratio; and the parents.
-#[derive(Clone, Copy)]
-struct Search {
-    met: Met,
-    x: [u64; 256],
-    par: [u16; 256],
+    let list = order::roots_first(&rules.rules(), parents);
+    carry(rules, &list.rules[..list.len], at, x, par);
 }
 
 // Passes from zeros at p/q, in the order given and then in the file's, until one raises nothing or the parents come round. The n-th does one or the other.
-// Before the first the parents given raise what they can, and between two those that there are.
+// Before the first the parents given in par raise what they can, and between two those that there are.
+// Ends with the least values that keep every rule, in x, or with a closed walk above the ratio, of parents.
 fn settle(
-    source: &[u16; 2048],
-    target: &[u16; 2048],
-    offset: &[u16; 2048],
-    delay: &[u32; 2048],
+    rules: &Filled<'_>,
     order: &[u16; 2048],
-    m: usize,
-    n: usize,
-    p: u64,
-    q: u64,
-    parents: &[u16; 256],
-) -> Search
-    requires { Query (shape source.now target.now offset.now m) (delay_at delay.now) n p q }
-    ensures settled { Settled (shape source.now target.now offset.now m) (delay_at delay.now) p q n result.x result.met.found result.met.delays result.met.offsets }
-    ensures x_len { length result.x ≡ 256 }
+    at: Ratio,
+    x: &mut [u64; 256],
+    par: &mut [u16; 256],
+) -> Option<Walk>
+    requires { Query (of_filled rules.now) (delays_of rules.now) rules.now.n at.p at.q }
+    ensures { Settled (of_filled rules.now) (delays_of rules.now) at.p at.q rules.now.n x.new result }
 {
-    let mut x = [0u64; 256];
-    let mut par = [0u16; 256];
-    follow(
-        source, target, offset, delay, m, n, parents, p, q, &mut x, &mut par,
-    );
+    let parents = *par;
+    *x = [0u64; 256];
+    *par = [0u16; 256];
+    follow(rules, &parents, at, x, par);
     let mut k = 0usize; // passes done: less than n, so the loop ends
     loop {
-        carry(
-            source, target, offset, delay, order, m, m, p, q, &mut x, &mut par,
-        );
-        if pass(source, target, offset, delay, m, p, q, &mut x, &mut par) {
-            let met = scan::scan(source, target, offset, delay, m, n, &par);
-            if met.found {
-                return Search {
-                    met: met,
-                    x: x,
-                    par: par,
-                };
-            }
-            let raised = par;
-            follow(
-                source, target, offset, delay, m, n, &raised, p, q, &mut x, &mut par,
-            );
-            k += 1;
-        } else {
-            let none = Met {
-                found: false,
-                delays: 0,
-                offsets: 0,
-            };
-            return Search {
-                met: none,
-                x: x,
-                par: par,
-            };
+        carry(rules, &order[..rules.m], at, x, par);
+        if !pass(rules, at, x, par) {
+            return None;
         }
+        if let Some(walk) = scan::scan(rules, par) {
+            return Some(walk);
+        }
+        let raised = *par;
+        follow(rules, &raised, at, x, par);
+        k += 1;
     }
 }
 
@@ -191,6 +114,7 @@ fn gcd(a: u64, b: u64) -> u64
 {
     let mut x = a;
     let mut y = b;
+    // y falls, though not by one
     while 0 < y {
         let z = x % y;
         x = y;
@@ -199,7 +123,8 @@ fn gcd(a: u64, b: u64) -> u64
     x
 }
 
-#[derive(Clone, Copy)]
+// A ratio. (`engine` has its like for what it hands out: were it this one, all that speak of a rate or a bid would stand on the search.)
+#[derive(Clone, Copy, PartialEq, Eq, Debug)]
 struct Ratio {
     p: u64,
     q: u64,
@@ -215,6 +140,7 @@ fn quotient(a: u64, e: u64) -> Ratio
 }
 
 // The ratio at which the climb ended, in lowest terms, whether it is a closed walk's that was found, and the least values that keep every rule there.
+// (A flag and no Option: the ratio and the values are there in any case, 0/1 where no closed walk was found.)
 #[derive(Clone, Copy)]
 pub struct Top {
     pub found: bool,
@@ -224,47 +150,28 @@ pub struct Top {
 }
 
 // From the first ratio to that of a closed walk above, and again, until no closed walk is above.
-pub fn climb(
-    source: &[u16; 2048],
-    target: &[u16; 2048],
-    offset: &[u16; 2048],
-    delay: &[u32; 2048],
-    m: usize,
-    n: usize,
-) -> Top
-    requires { (Limits source.now target.now offset.now m n) × (Short delay.now m) × (Live (shape source.now target.now offset.now m)) }
-    ensures reached { Reached (shape source.now target.now offset.now m) (delay_at delay.now) result.p result.q result.x }
-    ensures some_loop { result.found ≡ true → SomeLoop (shape source.now target.now offset.now m) }
+pub fn climb(rules: &Filled<'_>) -> Top
+    requires { Live (of_filled rules.now) }
+    ensures reached { Reached (of_filled rules.now) (delays_of rules.now) result.p result.q result.x }
+    ensures some_loop { result.found ≡ true → SomeLoop (of_filled rules.now) }
 {
-    let order = order::order(source, target, offset, m, n);
-    let mut p = 0u64;
-    let mut q = 1u64;
-    let first = above::start(source, target, offset, delay, &order, m, n);
+    let order = order::order(&rules.rules());
+    let first = above::start(rules, &order);
     let mut par = first.par;
-    let start = first.met;
-    let mut found = start.found;
-    if start.found {
-        let ratio = quotient(start.delays, start.offsets);
-        p = ratio.p;
-        q = ratio.q;
+    let mut found = first.met.is_some();
+    let mut ratio = match first.met {
+        Some(walk) => quotient(walk.delays, walk.offsets),
+        None => Ratio { p: 0, q: 1 },
+    };
+    let mut x = [0; 256];
+    while let Some(walk) = settle(rules, &order, ratio, &mut x, &mut par) {
+        ratio = quotient(walk.delays, walk.offsets);
+        found = true;
     }
-    loop {
-        let ended = settle(source, target, offset, delay, &order, m, n, p, q, &par);
-        let met = ended.met;
-        if met.found {
-            let ratio = quotient(met.delays, met.offsets);
-            p = ratio.p;
-            q = ratio.q;
-            par = ended.par;
-            found = true;
-        } else {
-            let x = ended.x;
-            return Top {
-                found: found,
-                p: p,
-                q: q,
-                x: x,
-            };
-        }
+    Top {
+        found,
+        p: ratio.p,
+        q: ratio.q,
+        x,
     }
 }

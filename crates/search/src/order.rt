@@ -1,13 +1,12 @@
 // Orders in which to raise values: the rules of offset 0 source first, and the parents from their roots on. A pass in such an order carries a value along
 // many rules at once. They are hints: passes in any order come to the same end, so nothing is promised of them.
 ghost use Rattle.std.specs.Prelude.{◌≡◌, ℕ, ◌≤◌, ◌<◌, get_or};
-ghost use Rattle.columns.specs.Columns.{Limits};
 ghost use Rattle.search.specs.Order.{Most, Queued};
 
-use columns::wide;
+use columns::Rules;
 
-// The rules that leave each transition, linked: `first` and `next` hold 1 more than a rule's number, and 0 for none.
-// `waits` counts the rules of offset 0 that enter each.
+// The rules that leave each transition, linked: `first` and `next` hold 1 more than a rule's number, and 0 for none
+// (no Option, which takes twice the memory). `waits` counts the rules of offset 0 that enter each.
 #[derive(Clone, Copy)]
 struct Links {
     first: [u16; 256],
@@ -16,7 +15,7 @@ struct Links {
 }
 
 // The transitions that wait for nothing, in the order in which they came to it: the first `end` places of `list`.
-// What stands past those counts for nothing.
+// What stands past those counts for nothing (fixed memory).
 #[derive(Clone, Copy)]
 struct Queue {
     list: [u16; 256],
@@ -30,58 +29,29 @@ struct Counts {
     end: usize,
 }
 
-fn narrow(x: usize) -> u16
-    requires { x < 65536 }
-    ensures { result ≡ x }
-{
-    x as u16
-}
-
-// The transition that a column holds for rule r.
-fn transition(column: &[u16; 2048], r: usize) -> usize
-    requires { (r < 2048) × (get_or column.now r 0 < 256) }
-    ensures { result < 256 }
-{
-    wide(column[r])
-}
-
 // 1 where x is less than y, else 0. It is added where a branch would do: the machine would often guess wrongly which way that goes,
 // and lose more time than the rest of the turn takes.
 fn less(x: u16, y: u16) -> u16
     ensures { result ≤ 1 }
 {
-    if x < y { 1 } else { 0 }
+    u16::from(x < y)
 }
 
 // The links of the rules below m: from the last one back, so that the rules of a transition are met in the file's order.
-fn link(
-    source: &[u16; 2048],
-    target: &[u16; 2048],
-    offset: &[u16; 2048],
-    m: usize,
-    n: usize,
-) -> Links
-    requires { Limits source.now target.now offset.now m n }
-    ensures { Most result.first m × Most result.next m }
+fn link(rules: &Rules<'_>) -> Links
+    ensures { Most result.first rules.now.m × Most result.next rules.now.m }
 {
     let mut first = [0u16; 256];
     let mut next = [0u16; 2048];
     let mut waits = [0u16; 256];
-    let mut i = 0;
-    while i < m {
-        let r = m - 1 - i;
-        let s = transition(source, r);
-        let t = transition(target, r);
+    for r in (0..rules.m).rev() {
+        let s = usize::from(rules.source[r]);
+        let t = usize::from(rules.target[r]);
         next[r] = first[s];
-        first[s] = narrow(r + 1);
-        waits[t] = waits[t] + less(offset[r], 1); // 1 for offset 0
-        i += 1;
+        first[s] = (r + 1) as u16;
+        waits[t] += less(rules.offset[r], 1); // 1 for offset 0
     }
-    Links {
-        first: first,
-        next: next,
-        waits: waits,
-    }
+    Links { first, next, waits }
 }
 
 // The queue at first. Each transition is written at its end, which moves on past those that wait for nothing.
@@ -91,16 +61,11 @@ fn ready(waits: &[u16; 256], n: usize) -> Queue
 {
     let mut list = [0u16; 256];
     let mut end = 0;
-    let mut v = 0;
-    while v < n {
-        list[end] = narrow(v);
-        end += wide(less(waits[v], 1));
-        v += 1;
+    for v in 0..n {
+        list[end] = v as u16;
+        end += usize::from(less(waits[v], 1));
     }
-    Queue {
-        list: list,
-        end: end,
-    }
+    Queue { list, end }
 }
 
 // A rule into transition v is listed: v waits for `one` fewer (1 or 0), and joins the queue in the same way where that was the last.
@@ -117,85 +82,75 @@ fn release(v: usize, one: u16, waits: &mut [u16; 256], list: &mut [u16; 256], en
     let left = before - one;
     waits[v] = left;
     if end < 256 {
-        list[end] = narrow(v);
-        return end + wide(less(left, one));
+        list[end] = v as u16;
+        end + usize::from(less(left, one))
+    } else {
+        end
     }
-    end
 }
 
 // Lists the rules that leave a transition: `from` is its first link.
 // (Never more than m in all: the guard spares a proof that a hint does not need, and with it the loop is seen to end.)
 fn leave(
-    target: &[u16; 2048],
-    offset: &[u16; 2048],
+    rules: &Rules<'_>,
     next: &[u16; 2048],
-    m: usize,
     from: usize,
     waits: &mut [u16; 256],
     list: &mut [u16; 256],
-    rules: &mut [u16; 2048],
+    order: &mut [u16; 2048],
     counts: Counts,
 ) -> Counts
-    requires { (m ≤ 2048) × ((r : ℕ) → r < m → get_or target.now r 0 < 256) × Most next.now m × (from ≤ m) × Queued list.old counts.end }
+    requires { Most next.now rules.now.m × (from ≤ rules.now.m) × Queued list.old counts.end }
     ensures { Queued list.new result.end }
 {
     let mut len = counts.len;
     let mut end = counts.end;
     let mut at = from;
-    while len < m {
-        if at == 0 {
-            return Counts { len: len, end: end };
-        }
+    // follows the links
+    while len < rules.m && at != 0 {
         let r = at - 1;
-        at = wide(next[r]); // read first: the next turn waits for it, and for nothing else
-        rules[len] = narrow(r);
+        at = usize::from(next[r]); // read first: the next turn waits for it, and for nothing else
+        order[len] = r as u16;
         len += 1;
-        end = release(transition(target, r), less(offset[r], 1), waits, list, end);
+        end = release(
+            usize::from(rules.target[r]),
+            less(rules.offset[r], 1),
+            waits,
+            list,
+            end,
+        );
     }
-    Counts { len: len, end: end }
+    Counts { len, end }
 }
 
 // The rules below m in that order. Those that a loop of offset 0 keeps back are left out, and zeros stand past the last.
-pub fn order(
-    source: &[u16; 2048],
-    target: &[u16; 2048],
-    offset: &[u16; 2048],
-    m: usize,
-    n: usize,
-) -> [u16; 2048]
-    requires { Limits source.now target.now offset.now m n }
-{
-    let links = link(source, target, offset, m, n);
-    let first = links.first;
-    let next = links.next;
-    let mut waits = links.waits;
-    let queue = ready(&waits, n);
-    let mut list = queue.list;
-    let mut rules = [0u16; 2048];
+pub fn order(rules: &Rules<'_>) -> [u16; 2048] {
+    let links = &mut link(rules); // lent field by field, and so not copied
+    let mut queue = ready(&links.waits, rules.n);
+    let mut order = [0u16; 2048];
     let mut counts = Counts {
         len: 0,
         end: queue.end,
     };
     let mut at = 0;
+    // the queue grows while it is worked off
     while at < counts.end {
-        let u = wide(list[at]);
+        let u = usize::from(queue.list[at]);
         counts = leave(
-            target,
-            offset,
-            &next,
-            m,
-            wide(first[u]),
-            &mut waits,
-            &mut list,
-            &mut rules,
+            rules,
+            &links.next,
+            usize::from(links.first[u]),
+            &mut links.waits,
+            &mut queue.list,
+            &mut order,
             counts,
         );
         at += 1;
     }
-    rules
+    order
 }
 
-// Rules by number: the first `len` places of `rules`.
+// Rules by number: the first `len` places of `rules` (fixed memory).
 #[derive(Clone, Copy)]
 pub struct List {
     pub rules: [u16; 2048],
@@ -203,82 +158,63 @@ pub struct List {
 }
 
 // Follows parents back from one transition to one that was seen, or that has none. `way` then holds the rules that were followed. Hands back their number.
-// (Never more than there are transitions: the guard spares a proof that a hint does not need, and with it the loop is seen to end.)
+// (Never more than there are transitions: that spares a proof that a hint does not need.)
 fn trace(
-    source: &[u16; 2048],
+    rules: &Rules<'_>,
     par: &[u16; 256],
-    m: usize,
     from: usize,
-    seen: &mut [u8; 256],
+    seen: &mut [bool; 256],
     way: &mut [u16; 256],
 ) -> usize
-    requires { (m ≤ 2048) × ((r : ℕ) → r < m → get_or source.now r 0 < 256) × (from < 256) }
+    requires { from < 256 }
     ensures { result ≤ 256 }
 {
-    let mut k = 0;
     let mut v = from;
-    while k < 256 {
-        if seen[v] == 1 {
+    for k in 0..256 {
+        if seen[v] {
             return k;
         }
-        seen[v] = 1;
-        let code = wide(par[v]);
-        if code == 0 {
-            return k;
-        }
-        if m < code {
+        seen[v] = true;
+        let code = usize::from(par[v]);
+        if code == 0 || rules.m < code {
             return k;
         }
         let r = code - 1;
-        way[k] = narrow(r);
-        k += 1;
-        v = transition(source, r);
+        way[k] = r as u16;
+        v = usize::from(rules.source[r]);
     }
-    k
+    256
 }
 
-// Lists the first k rules of a way, the last first. Hands back how many are listed.
-fn append(way: &[u16; 256], k: usize, rules: &mut [u16; 2048], len: usize) -> usize
-    requires { (k ≤ 256) × (len ≤ 2048) }
+// Lists the rules of a way, the last first. Hands back how many are listed.
+fn append(way: &[u16], rules: &mut [u16; 2048], len: usize) -> usize
+    requires { len ≤ 2048 }
     ensures { result ≤ 2048 }
 {
-    let mut left = k;
     let mut end = len;
-    while 0 < left {
+    for &rule in way.iter().rev() {
         if end == 2048 {
-            return end;
+            break;
         }
-        left -= 1;
-        rules[end] = way[left];
+        rules[end] = rule;
         end += 1;
     }
     end
 }
 
 // The parents, each after that of its source.
-pub fn roots_first(
-    source: &[u16; 2048],
-    target: &[u16; 2048],
-    offset: &[u16; 2048],
-    m: usize,
-    n: usize,
-    par: &[u16; 256],
-) -> List
-    requires { Limits source.now target.now offset.now m n }
+pub fn roots_first(rules: &Rules<'_>, par: &[u16; 256]) -> List
     ensures { result.len ≤ 2048 }
 {
-    let mut rules = [0u16; 2048];
-    let mut len = 0;
-    let mut seen = [0u8; 256];
+    let mut list = List {
+        rules: [0; 2048],
+        len: 0,
+    };
+    let mut seen = [false; 256];
     let mut way = [0u16; 256];
-    let mut v = 0;
-    while v < n {
-        let k = trace(source, par, m, v, &mut seen, &mut way);
-        len = append(&way, k, &mut rules, len);
-        v += 1;
+    for v in 0..rules.n {
+        let k = trace(rules, par, v, &mut seen, &mut way);
+        list.len = append(&way[..k], &mut list.rules, list.len);
     }
-    List {
-        rules: rules,
-        len: len,
-    }
+    list
 }

@@ -8,12 +8,16 @@
 --   refused number at       a refusal; accepted value rest: an acceptance
 --   limited g s low high x  the answer, where x is what stands at the front of s
 --   number_of g s low high   the answer about the number at the front of s, which is to be from low to high
+--   answer_told s x         the same answer, from the code's own result x: a refusal, or the value and its size in bytes
+--   value_told x            the value that x hands back, or 0 beside a refusal
 --   Read                    what reading a number promises
 --   code_in, code_of v        the bytes of v, with the fewest groups; code_length_of v: how many these are
 --   Put, put_of v out at     what writing v into out at the place `at` promises
 --   Bytes s                 every element of s is a byte
-use Rattle.std.specs.Prelude.{ℕ, zero, suc, ◌+◌, ◌-◌, ◌*◌, ◌/◌, ◌%◌, ◌<◌, Bool, true, false, List, [], ◌∷◌, ◌≡◌, length, get_or, drop, ltb, leb}
+use Rattle.std.specs.Prelude.{ℕ, zero, suc, ◌+◌, ◌-◌, ◌*◌, ◌/◌, ◌%◌, ◌<◌, Bool, true, false, List, [], ◌∷◌, ◌≡◌, length, get_or, drop, ltb, leb, Result, Ok, Err}
 use Rattle.std.proofs.lemmas.List.Edits.{sets}
+use Rattle.refusals.specs.declared.Refusal.{Refusal}
+use Rattle.refusals.specs.Number.{number_of as number_of_why}
 use Rattle.sevens.specs.declared.Raw.{Raw}
 use Rattle.sevens.specs.declared.Raw.TheVariants.{Cut, Long, Value}
 
@@ -81,6 +85,16 @@ limited g s low high (Value v size) =
 -- the number at the front of s, of at most g groups, which is to be from low to high
 unfoldable pub number_of : ℕ → List ℕ → ℕ → ℕ → Answer
 number_of g s low high = limited g s low high (raw_of g s)
+
+-- what the code hands back of the bytes s, as an answer
+abbrev pub answer_told : List ℕ → Result (ℕ × ℕ) Refusal → Answer
+answer_told s (Ok x) = accepted x.0 (drop x.1 s)
+answer_told s (Err e) = refused (number_of_why e.why) e.place
+
+-- a refusal hands back no value
+abbrev pub value_told : Result ℕ Refusal → ℕ
+value_told (Ok v) = v
+value_told (Err e) = 0
 
 -- what reading promises of the bytes s lent at `from` and the part r handed back at `to`: the answer, and that the part is
 -- the empty one at the start of s where it is refused, and the end of s where it is accepted

@@ -1,19 +1,21 @@
 -- What the code's proofs cite: the number as far as it was read, and the code as far as it was written.
 --
 --   carried v scale i x     what i groups that came to v, the last of them followed by another, come to before x
-use Rattle.std.specs.Prelude.{ℕ, zero, suc, ◌+◌, ◌-◌, ◌*◌, ◌/◌, ◌%◌, ◌^◌, ◌≤◌, ◌<◌, List, [], ◌∷◌, ◌≡◌, refl, length, get_or, drop, take, set}
+use Rattle.std.specs.Prelude.{ℕ, zero, suc, ◌+◌, ◌-◌, ◌*◌, ◌/◌, ◌%◌, ◌^◌, ◌≤◌, ◌<◌, List, [], ◌∷◌, ◌≡◌, refl, length, get_or, drop, take, set, leb}
 use Rattle.std.proofs.Math.Logic.{by_cases}
 use Rattle.std.proofs.Math.Path.{ap}
-use Rattle.std.proofs.Common.{sym, ◌∙◌, subst, add-one, pow-suc, mul-le-mul, drop-cons, take_all}
+use Rattle.std.proofs.Common.{sym, ◌∙◌, add-one, pow-suc, mul-le-mul, drop-cons}
 use native.Mathlib.Omega.{arith}
 use Rattle.std.proofs.Math.Decide.{dec_lt}
 use Rattle.std.proofs.Math.Nat.{pow-le-pow_right}
 use Rattle.std.proofs.Math.ListN.{length-drop}
+use borrow.Author.Tests.{lt-ltb, le-ltb, lt-leb, le-leb}
 use Rattle.std.proofs.lemmas.List.Edits.{sets}
+use Rattle.std.specs.List.{prefix_len}
 use Rattle.sevens.specs.declared.Raw.{Raw}
 use Rattle.sevens.specs.declared.Raw.TheVariants.{Cut, Long, Value}
-use Rattle.sevens.specs.Sevens.{followed, raw_of, Answer, refused, number_of, Read, code_of, code_length_of, put_of}
-use Rattle.sevens.specs.Laws.{raw_last, raw_more, raw_size, Follow, value_same, number_accepted, number_most, code_last, code_more, put_room}
+use Rattle.sevens.specs.Sevens.{followed, raw_of, marked, code_of, code_length_of, put_of}
+use Rattle.sevens.specs.Laws.{raw_last, raw_more, value_same, code_last, code_more, put_room}
 
 -- ---- reading group after group
 
@@ -117,35 +119,15 @@ scale_again i scale e = rw (add-one, pow-suc, e)
 
 -- ---- looking for the byte that breaks the rule
 
-pub follow_next : (s : List ℕ) (k : ℕ) → Follow s k → 128 ≤ get_or s k 0 → Follow s (k + 1)
-follow_next s k f h i l =
-    by_cases (dec_lt i k)
-    (λ j. f i j)
-    (λ j. let e : k ≡ i = omega arith in subst (λ n. 128 ≤ get_or s n 0) e h)
-
--- ---- what a reading hands back
-
-pub read_refused : (g : ℕ) (s : List ℕ) (low high number at : ℕ) (r : List ℕ) (from to : ℕ × ℕ)
-    → number_of g s low high ≡ refused number at → 1 ≤ number → (r ≡ []) × (to ≡ from) → Read g s low high 0 number at r from to
-read_refused g s low high number at r from to e n h =
-    record { answer = e ∙ rw h.0; at_start = λ l. h.1; at_end = λ z. absurd (omega arith) }
-
--- the part from k on, as the code makes it
-pub read_accepted : (g : ℕ) (s : List ℕ) (low high v k : ℕ) (from to : ℕ × ℕ) → raw_of g s ≡ Value v k → (low ≤ v) × (v ≤ high)
-    → to.0 ≡ from.0 → to.1 ≡ from.1 + k → Read g s low high v 0 0 (take (length s - k) (drop k s)) from to
-read_accepted g s low high v k from to e h block start =
-    let size = raw_size g s v k e in
-    let part : take (length s - k) (drop k s) ≡ drop k s = take_all (length s - k) (drop k s) (omega (arith, length-drop k s)) in
-    rw part
-    (record {
-      answer = number_accepted g s low high v k e h.0 h.1;
-      at_start = λ l. absurd (omega arith);
-      at_end = λ z. (block, omega (arith, length-drop k s));
-    })
-
--- a value is at most the highest, so that it fits the width of its limits
-pub read_most : {g : ℕ} {s : List ℕ} {low high v f p : ℕ} {r : List ℕ} {from to : ℕ × ℕ} → Read g s low high v f p r from to → v ≤ high
-read_most {g} {s} {low} {high} h = subst (λ (a : Answer). a.value ≤ high) h.answer (number_most g s low high)
+-- the code counts the bytes with a top bit set at the front of the first k
+pub marked_prefix : (k : ℕ) (s : List ℕ) → prefix_len (λ b. leb 128 b) (take k s) ≡ marked k s
+unfolding marked
+marked_prefix zero s = refl
+marked_prefix (suc k) [] = refl
+marked_prefix (suc k) (b ∷ s) =
+    by_cases (dec_lt b 128)
+    (λ l. simp (lt-ltb b 128 l, lt-leb 128 b l))
+    (λ l. simp (le-ltb b 128 (omega arith), le-leb 128 b (omega arith)) (omega (arith, marked_prefix k s)))
 
 -- ---- writing group after group
 

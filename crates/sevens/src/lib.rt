@@ -1,31 +1,22 @@
 // Numbers in groups of seven bits: one read off the front of lent bytes, one written into a lent buffer.
 #![tactic(auto)]
 
-ghost use Rattle.std.specs.Prelude.{[], ◌≡◌, ◌+◌, ◌≤◌, ◌<◌, length, get_or};
-ghost use Rattle.sevens.specs.Sevens.{raw_of, cut_place_of, long_place_of, Read, code_length_of, put_of};
+ghost use Rattle.std.specs.Prelude.{◌≡◌, ◌≤◌, length, get_or, IfOk};
+ghost use Rattle.refusals.specs.Number.{told};
+ghost use Rattle.sevens.specs.Sevens.{raw_of, long_place_of, number_of, answer_told, value_told, Read, code_length_of, put_of};
+
+use refusals::{Refusal, Why};
 
 // A number has at most this many groups.
 pub const GROUPS: usize = 3;
 
-pub const CUT: u32 = 1;
-
-pub const LONG: u32 = 2;
-
-pub const RANGE: u32 = 3;
-
 // One number as written: a byte is missing, it is not written as it should be, or its value and its size in bytes.
-#[derive(Clone, Copy)]
+// It is an enum of its own and no `Result`: `raw_of` and the theorems above it, up to those of the buyer's demands, name its three variants.
+#[derive(Clone, Copy, Debug, PartialEq, Eq)]
 pub enum Raw {
     Cut,
     Long,
     Value(u64, usize),
-}
-
-// A function of its own, since a cast in place asks each time that the byte fits.
-fn wide(x: u8) -> u64
-    ensures { (result ≡ x) × (result < 256) }
-{
-    x as u64
 }
 
 // The number at the front, whose first byte says that another follows.
@@ -33,14 +24,13 @@ fn several(bytes: &[u8], groups: usize) -> Raw
     requires { (1 ≤ groups) × (groups ≤ 9) × (128 ≤ get_or bytes.now 0 0) × (1 ≤ length bytes.now) }
     ensures { result ≡ raw_of groups bytes.now }
 {
-    let mut value = wide(bytes[0]) - 128;
-    let mut scale = 128u64;
-    let mut i = 1usize;
-    while i < groups {
+    let mut value = u64::from(bytes[0]) - 128;
+    let mut scale = 128;
+    for i in 1..groups {
         if bytes.len() <= i {
             return Raw::Cut;
         }
-        let b = wide(bytes[i]);
+        let b = u64::from(bytes[i]);
         if b == 0 {
             return Raw::Long;
         }
@@ -49,7 +39,6 @@ fn several(bytes: &[u8], groups: usize) -> Raw
         }
         value += (b - 128) * scale;
         scale *= 128;
-        i += 1;
     }
     Raw::Long
 }
@@ -59,21 +48,11 @@ fn written(bytes: &[u8], groups: usize) -> Raw
     requires { (1 ≤ groups) × (groups ≤ 9) }
     ensures { result ≡ raw_of groups bytes.now }
 {
-    if bytes.len() == 0 {
-        return Raw::Cut;
+    match bytes {
+        [] => Raw::Cut,
+        [first, ..] if *first < 128 => Raw::Value(u64::from(*first), 1),
+        _ => several(bytes, groups),
     }
-    let first = wide(bytes[0]);
-    if first < 128 {
-        return Raw::Value(first, 1);
-    }
-    several(bytes, groups)
-}
-
-// The place of refusal 1: after the last byte, where the missing one would be.
-fn cut_place(bytes: &[u8], groups: usize) -> usize
-    ensures { result ≡ cut_place_of groups bytes.now }
-{
-    bytes.len()
 }
 
 // The place of refusal 2: the byte that breaks the rule, which is the last that there may be, or else the last group, which is zero.
@@ -81,101 +60,45 @@ fn long_place(bytes: &[u8], groups: usize) -> usize
     requires { 1 ≤ groups }
     ensures { result ≡ long_place_of groups bytes.now }
 {
-    let last = groups - 1;
-    let mut i = 0usize;
-    while i < last {
-        if bytes.len() <= i {
-            return i;
-        }
-        if bytes[i] < 128 {
-            return i;
-        }
-        i += 1;
-    }
-    last
+    bytes
+        .iter()
+        .take(groups - 1)
+        .take_while(|b| 128 <= **b)
+        .count()
 }
 
-// The empty part at the start of the bytes, which a refusal hands back.
-fn nothing<'a>(bytes: &'a [u8]) -> &'a [u8]
-    ensures { (result.now ≡ []) × (result.ref_ptr ≡ bytes.entry.ref_ptr) }
-{
-    &bytes[..0]
-}
-
-// The number at the front, of at most `groups` groups, within its limits; nine groups fit 64 bits.
-fn number_in<'a>(
-    bytes: &'a [u8],
-    groups: usize,
-    low: u64,
-    high: u64,
-    value: &mut u64,
-    refusal: &mut u32,
-    place: &mut usize,
-) -> &'a [u8]
+// The number at the front, of at most `groups` groups, within its limits, and its size; nine groups fit 64 bits.
+// Refusal 1 stands after the last byte, where the missing one would be.
+fn number_in(bytes: &[u8], groups: usize, low: u64, high: u64) -> Result<(u64, usize), Refusal>
     requires { (1 ≤ groups) × (groups ≤ 9) }
-    ensures { Read groups bytes.now low high value.new refusal.new place.new result.now bytes.entry.ref_ptr result.ref_ptr }
+    ensures answer { answer_told bytes.now result ≡ number_of groups bytes.now low high }
+    ensures inside { IfOk result (λ x. x.1 ≤ length bytes.now) }
 {
-    let x = written(bytes, groups);
-    *value = 0;
-    *place = 0;
-    match x {
-        Raw::Cut => {
-            *refusal = CUT;
-            *place = cut_place(bytes, groups);
-            nothing(bytes)
-        }
-        Raw::Long => {
-            *refusal = LONG;
-            *place = long_place(bytes, groups);
-            nothing(bytes)
-        }
-        Raw::Value(v, size) => {
-            if v < low {
-                *refusal = RANGE;
-                return nothing(bytes);
-            }
-            if high < v {
-                *refusal = RANGE;
-                return nothing(bytes);
-            }
-            *value = v;
-            *refusal = 0;
-            &bytes[size..]
-        }
+    match written(bytes, groups) {
+        Raw::Cut => Err(Why::Cut.at(bytes.len())),
+        Raw::Long => Err(Why::Long.at(long_place(bytes, groups))),
+        Raw::Value(v, _) if v < low || high < v => Err(Why::Range.at(0)),
+        Raw::Value(v, size) => Ok((v, size)),
     }
 }
 
-// The number at the front of `bytes`, from `low` to `high`, with the rest of `bytes`; refused, the empty part at their start.
-pub fn number<'a>(
-    bytes: &'a [u8],
-    low: u32,
-    high: u32,
-    value: &mut u32,
-    refusal: &mut u32,
-    place: &mut usize,
-) -> &'a [u8]
-    ensures { Read 3 bytes.now low high value.new refusal.new place.new result.now bytes.entry.ref_ptr result.ref_ptr }
+// The number at the front of `bytes`, from `low` to `high`, or why it is refused, and the rest of `bytes`; refused, the empty part at their start.
+// The part stands beside the `Result`: it goes out in both cases, and the promise `Read` says where it lies in both.
+pub fn number(bytes: &[u8], low: u32, high: u32) -> (Result<u32, Refusal>, &[u8])
+    ensures { Read 3 bytes.now low high (value_told result.0) (told result.0).refusal (told result.0).place result.1.now bytes.entry.ref_ptr result.1.ref_ptr }
 {
-    let mut found = 0u64;
-    let rest = number_in(
-        bytes,
-        GROUPS,
-        low as u64,
-        high as u64,
-        &mut found,
-        refusal,
-        place,
-    );
-    *value = found as u32;
-    rest
+    match number_in(bytes, GROUPS, u64::from(low), u64::from(high)) {
+        Ok((value, size)) => (Ok(value as u32), &bytes[size..]),
+        Err(e) => (Err(e), &bytes[..0]),
+    }
 }
 
-// How many bytes v takes, from 1 to 10.
+// How many bytes v takes, from 1 to 10. The loop takes seven bits off a number, and so has no count of turns to go by.
 pub fn code_length(v: u64) -> usize
     ensures { result ≡ code_length_of v }
 {
     let mut left = v;
-    let mut count = 1usize;
+    let mut count = 1;
     while 128 <= left {
         left /= 128;
         count += 1;
@@ -183,32 +106,22 @@ pub fn code_length(v: u64) -> usize
     count
 }
 
-// As `wide`: a function of its own, so that the cast asks for its bound once.
-fn narrow(x: u64) -> u8
-    requires { x < 256 }
-    ensures { result ≡ x }
-{
-    x as u8
-}
-
 // Writes v into `out` from `at` on, and hands back how many bytes that took; without room for all of them it writes none and hands back 0.
 pub fn put(v: u64, out: &mut [u8], at: usize) -> usize
     ensures { put_of v out.old at ≡ record { buffer = out.new; count = result } }
 {
     let count = code_length(v);
-    if out.len() < at {
-        return 0;
-    }
-    if out.len() - at < count {
+    if out.len() < at || out.len() - at < count {
         return 0;
     }
     let mut left = v;
     let mut i = at;
+    // As in `code_length`.
     while 128 <= left {
-        out[i] = narrow(left % 128 + 128);
+        out[i] = (left % 128 + 128) as u8;
         left /= 128;
         i += 1;
     }
-    out[i] = narrow(left);
+    out[i] = left as u8;
     count
 }

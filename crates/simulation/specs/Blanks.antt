@@ -1,29 +1,31 @@
 -- The search for the first blank, and a table without one as columns.
 --
---   BlankAt t r     == r is the lowest rule of t with an unknown delay, or m where no delay is unknown
+--   BlankAt t r     == r is the lowest rule of t with an unknown delay, or none where no delay is unknown
 --   timed_same      times ask for the delays of rules alone
 --   columns_live, columns_timed   what is said of a table's columns is said of the table
-use Rattle.std.specs.Prelude.{◌≡◌, Bool, List, ℕ, ◌+◌, ◌≤◌, ◌<◌, get_or}
+--   timed_columns                 what is said of the columns lent with their least delays is said of the columns
+use Rattle.std.specs.Prelude.{◌≡◌, ◌≢◌, Bool, List, ℕ, ◌+◌, ◌<◌, get_or, Option, Some, None}
 use Rattle.std.proofs.Common.{sym, ap, ◌∙◌, subst, inl, inr, ⊎_elim, arith}
 use Rattle.std.proofs.Math.Logic.{by_cases}
 use Rattle.std.proofs.Math.Decide.{ℕ_discrete}
 use Rattle.model.specs.Shape.{Shape}
 use Rattle.model.specs.Loop.{Live}
 use Rattle.model.specs.Times.{Cause, IsTime, Timed}
-use Rattle.table.specs.declared.Delay.{Delay}
-use Rattle.table.specs.declared.Delay.TheVariants.{Known, Unknown}
+use Rattle.table.specs.declared.Delay.TheVariants.{Unknown}
 use Rattle.table.specs.declared.Rule.{Rule}
 use Rattle.table.specs.declared.Table.{Table}
 use Rattle.table.specs.Form.{unused_rule, rule_of}
 use Rattle.table.specs.Meaning.{used, shape_of, Blank, used_rule}
 use Rattle.columns.specs.Columns.{shape, delay_at}
+use Rattle.columns.specs.declared.Columns.{Columns}
+use Rattle.columns.specs.declared.rules.Filled.{Filled}
+use Rattle.columns.specs.Views.{of_columns, of_filled, delays_of}
 use Rattle.columns.specs.Lay.{Laid, laid_shape, laid_least}
 use Rattle.simulation.specs.Simulation.{delays, NoBlank, FirstBlank}
 
-pub record BlankAt (t : Table) (r : ℕ) : Type 0 where
-  pub low : r ≤ t.m
-  pub here : r < t.m → FirstBlank t r
-  pub none : r ≡ t.m → NoBlank t
+abbrev pub BlankAt : Table → Option ℕ → Type 0
+BlankAt t (Some r) = FirstBlank t r
+BlankAt t None = NoBlank t
 
 -- no rule below r has a blank
 pub record KnownTo (t : Table) (r : ℕ) : Type 0 where
@@ -33,28 +35,20 @@ module _ (t : Table) where
   pub known_start : KnownTo t 0
   known_start = record { each = λ q l b. omega arith }
 
-  not_unknown : (x : Delay) (d : ℕ) → x ≡ Known d → x ≡ Unknown → ⊥
-  not_unknown x d e f = let z : ◌≡◌ {A = ℕ} 0 1 = cc in omega arith
-
-  pub known_step : (r d : ℕ) → r < t.m → (rule_of t r).delay ≡ Known d → KnownTo t r → KnownTo t (r + 1)
-  known_step r d l e old =
+  pub known_step : (r : ℕ) → r < t.m → (rule_of t r).delay ≢ Unknown → KnownTo t r → KnownTo t (r + 1)
+  known_step r l d old =
       record {
         each = λ q a b.
             by_cases (ℕ_discrete q r)
-            (λ s. not_unknown (rule_of t r).delay d e (ap (λ (x : Rule). x.delay) (sym (used_rule t r l)) ∙ subst (λ x. (get_or (used t) x unused_rule).delay ≡ Unknown) s b.1))
+            (λ s. d (ap (λ (x : Rule). x.delay) (sym (used_rule t r l)) ∙ subst (λ x. (get_or (used t) x unused_rule).delay ≡ Unknown) s b.1))
             (λ n. old.each q (omega arith) b);
       }
 
-  pub blank_here : (r : ℕ) → r < t.m → (rule_of t r).delay ≡ Unknown → KnownTo t r → BlankAt t r
-  blank_here r l e old =
-      record {
-        low = omega arith;
-        here = λ h. record { blank = (l, ap (λ (x : Rule). x.delay) (used_rule t r l) ∙ e); before = old.each };
-        none = λ s. absurd (omega arith);
-      }
+  pub blank_here : (r : ℕ) → r < t.m → (rule_of t r).delay ≡ Unknown → KnownTo t r → FirstBlank t r
+  blank_here r l e old = record { blank = (l, ap (λ (x : Rule). x.delay) (used_rule t r l) ∙ e); before = old.each }
 
-  pub blank_none : KnownTo t t.m → BlankAt t t.m
-  blank_none old = record { low = omega arith; here = λ h. absurd (omega arith); none = λ s q b. old.each q b.0 b }
+  pub blank_none : KnownTo t t.m → NoBlank t
+  blank_none old q b = old.each q b.0 b
 
 -- delays that agree on the rules have the same times
 module _ (S : Shape) (D E : ℕ → ℕ) (same : (r : ℕ) → r < S.rules → D r ≡ E r) where
@@ -80,3 +74,8 @@ module _ (t : Table) (source target offset least greatest : List ℕ) (blank : B
   columns_timed N n out₀ out x =
       timed_same (shape_of t) (delay_at least) (delays t) (laid_least t source target offset least greatest blank laid) N n out₀ out
       (subst (λ (S : Shape). Timed S (delay_at least) N n out₀ out) (laid_shape t source target offset least greatest blank laid) x)
+
+pub timed_columns : (c : Columns) (r : Filled) → (r.source.now ≡ c.source) × (r.target.now ≡ c.target) × (r.offset.now ≡ c.offset) → r.delay.now ≡ c.least
+    → (r.m ≡ c.m) × (r.n ≡ c.n) → (N : ℕ) (out₀ out : List ℕ) → Timed (of_filled r) (delays_of r) N r.n out₀ out
+    → Timed (of_columns c) (delay_at c.least) N c.n out₀ out
+timed_columns c r e d z N out₀ out h = rw (e.0, e.1, e.2, d, z.0, z.1) at h

@@ -5,7 +5,7 @@
 --   NoBlank t         no rule of t has an unknown delay
 --   FirstBlank t r    r is the lowest rule of t that has one
 --   SimulationOf t N out₀ r out
---                     THE PROMISE of `simulate`: r is handed back and the buffer out₀ becomes out
+--                     THE PROMISE of `simulate`: r is told and the buffer out₀ becomes out
 --
 -- Theorem: simulation_unique (a single outcome).
 use Rattle.std.specs.Prelude.{◌≡◌, refl, ◌⊎◌, List, ℕ, ◌*◌, ◌≤◌, ◌<◌, length, get_or}
@@ -19,6 +19,7 @@ use Rattle.model.specs.Times.{Timed}
 use Rattle.theory.specs.Search.{none_or_first}
 use Rattle.theory.specs.Knot.{knot_or_live}
 use Rattle.theory.specs.Times.{timed_unique}
+use Rattle.refusals.specs.Number.{Told}
 use Rattle.table.specs.declared.Delay.{Delay}
 use Rattle.table.specs.declared.Delay.TheVariants.{Known, Unknown}
 use Rattle.table.specs.declared.Table.{Table}
@@ -26,7 +27,6 @@ use Rattle.table.specs.Limits.{min_occurrences, max_occurrences}
 use Rattle.table.specs.Form.{unused_rule}
 use Rattle.table.specs.Fields.{Within, FirstBad, within_or_first_bad}
 use Rattle.table.specs.Meaning.{used, shape_of, ranges_of, Blank, within_fits}
-use Rattle.simulation.specs.declared.Simulated.{Simulated}
 
 -- a known delay is the least that it may be
 abbrev pub delays : Table → ℕ → ℕ
@@ -43,19 +43,19 @@ pub record FirstBlank (t : Table) (r : ℕ) : Type 0 where
   pub before : (q : ℕ) → q < r → ¬ (Blank t q)
 
 -- refused with number f at place p, and the buffer as it was
-pub record Refused (f p : ℕ) (out₀ : List ℕ) (r : Simulated) (out : List ℕ) : Type 0 where
+pub record Refused (f p : ℕ) (out₀ : List ℕ) (r : Told) (out : List ℕ) : Type 0 where
   pub number : r.refusal ≡ f
   pub place : r.place ≡ p
   pub kept : out ≡ out₀
 
 -- the times, row by row, with 0 and 0
-pub record Answered (t : Table) (N : ℕ) (out₀ : List ℕ) (r : Simulated) (out : List ℕ) : Type 0 where
+pub record Answered (t : Table) (N : ℕ) (out₀ : List ℕ) (r : Told) (out : List ℕ) : Type 0 where
   pub number : r.refusal ≡ 0
   pub place : r.place ≡ 0
   pub times : Timed (shape_of t) (delays t) N t.n out₀ out
 
 -- one clause for each case, in the order in which they are tried: 3, 9, 7, 8, 5
-pub record SimulationOf (t : Table) (N : ℕ) (out₀ : List ℕ) (r : Simulated) (out : List ℕ) : Type 0 where
+pub record SimulationOf (t : Table) (N : ℕ) (out₀ : List ℕ) (r : Told) (out : List ℕ) : Type 0 where
   pub outside : (k : ℕ) → FirstBad t k → Refused 3 k out₀ r out
   pub span : Within t → ¬ (Span N) → Refused 9 0 out₀ r out
   pub unknown : Within t → Span N → (q : ℕ) → FirstBlank t q → Refused 7 q out₀ r out
@@ -81,14 +81,14 @@ no_or_first_blank t =
     (none_or_first (Blank t) (blank_dec t) t.m)
 
 -- the same number, place and buffer
-pub record Same (r s : Simulated) (out out' : List ℕ) : Type 0 where
+pub record Same (r s : Told) (out out' : List ℕ) : Type 0 where
   pub result : r ≡ s
   pub buffer : out ≡ out'
 
-same : (r s : Simulated) → r.refusal ≡ s.refusal → r.place ≡ s.place → r ≡ s
+same : (r s : Told) → r.refusal ≡ s.refusal → r.place ≡ s.place → r ≡ s
 same r s e f = ap (λ x. record { refusal = x; place = r.place }) e ∙ ap (λ x. record { refusal = s.refusal; place = x }) f
 
-module _ (t : Table) (N : ℕ) (out₀ : List ℕ) (r s : Simulated) (out out' : List ℕ) where
+module _ (t : Table) (N : ℕ) (out₀ : List ℕ) (r s : Told) (out out' : List ℕ) where
   refused_same : (f p : ℕ) → Refused f p out₀ r out → Refused f p out₀ s out' → Same r s out out'
   refused_same f p a b = record { result = same r s (a.number ∙ sym b.number) (a.place ∙ sym b.place); buffer = a.kept ∙ sym b.kept }
 

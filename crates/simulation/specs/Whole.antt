@@ -15,6 +15,7 @@ use Rattle.model.specs.Times.{Acts, asked, Cause, Timed}
 use Rattle.theory.specs.Relax.{zeros_at}
 use Rattle.theory.specs.Rank.{live_ranks}
 use Rattle.columns.specs.Columns.{shape, delay_at, Limits, Short}
+use Rattle.simulation.specs.declared.group.Groups.{Groups}
 use Rattle.simulation.specs.Groups.{Within, Grouped, Rearranged, Bounded, grouped_ends, grouped_rising}
 use Rattle.simulation.specs.Order.{Ranked, Complete}
 use Rattle.simulation.specs.Rows.{at, Pull, Plan, Rows}
@@ -27,9 +28,10 @@ module _
     (source target offset delay : List ℕ)
     (m n : ℕ)
     (limits : Limits source target offset m n)
-    (rules first sources offsets delays : List ℕ)
-    (grouped : Grouped target m n rules first)
-    (new : Rearranged source offset delay rules sources offsets delays m)
+    (rules : List ℕ)
+    (G : Groups)
+    (grouped : Grouped target m n rules G.first)
+    (new : Rearranged source offset delay rules G.sources G.offsets G.delays m)
   where
     abbrev S : Shape
     S = shape source target offset m
@@ -37,33 +39,33 @@ module _
     abbrev D : ℕ → ℕ
     D = delay_at delay
 
-    place_low : (v j : ℕ) → v < n → Within first v j → j < m
-    place_low v j l w = omega (arith, w.1, grouped_ends target m n rules first grouped (v + 1) (omega arith))
+    place_low : (v j : ℕ) → v < n → Within G.first v j → j < m
+    place_low v j l w = omega (arith, w.1, grouped_ends target m n rules G.first grouped (v + 1) (omega arith))
 
     -- place j of a group is a rule into its transition, with the same source, offset and delay
     pub record RuleOf (v j r : ℕ) : Type 0 where
       pub is_rule : r < m
       pub leads : get_or target r 0 ≡ v
-      pub source_is : get_or sources j 0 ≡ get_or source r 0
-      pub offset_is : get_or offsets j 0 ≡ get_or offset r 0
-      pub delay_is : get_or delays j 0 ≡ get_or delay r 0
+      pub source_is : get_or G.sources j 0 ≡ get_or source r 0
+      pub offset_is : get_or G.offsets j 0 ≡ get_or offset r 0
+      pub delay_is : get_or G.delays j 0 ≡ get_or delay r 0
 
-    pub group_rule : (v j : ℕ) → v < n → Within first v j → RuleOf v j (get_or rules j 0)
+    pub group_rule : (v j : ℕ) → v < n → Within G.first v j → RuleOf v j (get_or rules j 0)
     group_rule v j l w =
         let b = place_low v j l w in
         let p = grouped.inside v j l w in
         record { is_rule = p.0; leads = p.1; source_is = new.source_is j b; offset_is = new.offset_is j b; delay_is = new.delay_is j b }
 
-    pub groups_bounded : Bounded sources first n
+    pub groups_bounded : Bounded G n
     groups_bounded =
         record {
           few = limits.few_transitions;
-          ends = λ v l. omega (arith, grouped_ends target m n rules first grouped (v + 1) (omega arith), limits.few_rules);
-          rising = grouped_rising target m n rules first grouped;
+          ends = λ v l. omega (arith, grouped_ends target m n rules G.first grouped (v + 1) (omega arith), limits.few_rules);
+          rising = grouped_rising target m n rules G.first grouped;
           sources_low = λ v j l w. let r = group_rule v j l w in rw r.source_is (limits.fits (get_or rules j 0) r.is_rule).0;
         }
 
-    pub groups_ranked : Live S → Ranked sources offsets first n
+    pub groups_ranked : Live S → Ranked G n
     groups_ranked live =
         let (rank, rises) = live_ranks S n limits.fits live in
         record {
@@ -75,7 +77,7 @@ module _
         }
 
     module _ (short : Short delay m) (order : List ℕ) where
-      pub groups_plan : Complete sources offsets first n order → Plan sources offsets delays first order n
+      pub groups_plan : Complete G n order → Plan G order n
       groups_plan c =
           record {
             bounded = groups_bounded;
@@ -84,7 +86,7 @@ module _
           }
 
       -- THE ROWS ARE THE TIMES: a rule into v stands in the group of v, and what stands there is a rule into v
-      module _ (N : ℕ) (X₀ X : List ℕ) (rows : Rows sources offsets delays first order n N X₀ X) where
+      module _ (N : ℕ) (X₀ X : List ℕ) (rows : Rows G order n N X₀ X) where
         T : ℕ → ℕ → ℕ
         T i v = at n X i v
 
@@ -93,12 +95,12 @@ module _
         late_enough i v a b r acts =
             let p = grouped.all r acts.is_rule (limits.fits r acts.is_rule).1 in
             let j = p.0 in
-            let w : Within first v j = rw acts.target at p.1 in
+            let w : Within G.first v j = rw acts.target at p.1 in
             let q = group_rule v j b w in
             rw (← p.2, ← q.offset_is, ← q.source_is, ← q.delay_is)
             ((rows.times i v a b).all j w.0 w.1 (rw (q.offset_is, p.2) acts.reached))
 
-        cause : (i v : ℕ) → v < n → Pull sources offsets delays (get_or first v 0) (get_or first (v + 1) 0) n i X (at n X i v) → Cause S D T i v
+        cause : (i v : ℕ) → v < n → Pull G (get_or G.first v 0) (get_or G.first (v + 1) 0) n i X (at n X i v) → Cause S D T i v
         unfolding T
         cause i v b p =
             let q = group_rule v p.place b (p.from_low, p.to_high) in

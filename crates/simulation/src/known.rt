@@ -4,23 +4,16 @@ ghost use Rattle.simulation.specs.Blanks.{BlankAt};
 
 use table::{Delay, Table};
 
-// The lowest rule with an unknown delay, or m.
-pub fn blank(t: Table) -> usize
+// The lowest rule with an unknown delay.
+pub fn blank(t: Table) -> Option<usize>
     requires { Within t }
     ensures { BlankAt t result }
 {
-    let m = t.m;
-    let mut r = 0;
-    while r < m {
-        let rule = t.rules[r];
-        let delay = rule.delay;
-        match delay {
-            Delay::Unknown => {
-                return r;
-            }
-            Delay::Known(_) => {}
+    for r in 0..t.m {
+        let delay = t.rules[r].delay;
+        if let Delay::Unknown = delay {
+            return Some(r);
         }
-        r += 1;
     }
-    m
+    None
 }

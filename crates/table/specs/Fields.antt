@@ -7,12 +7,12 @@
 --   RuleWithin n x   every field of the rule x is within its limits
 --   Within t         every field of t is within its limits
 --   FirstBad t k     k is the first field of t that is not
---   FirstIn n x j    j is the first field of the rule x that is not, or 4
+--   FirstIn n x j    j is the first field of the rule x that is not
 --   Judged t x       what the check of t hands back
 --
 -- Theorems: within_ok and ok_within (Within is Ok of every field), first_bad_unique, within_or_first_bad (decidable), judged_unique (a single outcome).
 use Prim.{Unit, tt}
-use Rattle.std.specs.Prelude.{◌⊎◌, ◌≡◌, ℕ, zero, suc, ◌+◌, ◌-◌, ◌*◌, ◌/◌, ◌%◌, ◌≤◌, ◌<◌}
+use Rattle.std.specs.Prelude.{◌⊎◌, ◌≡◌, ℕ, zero, suc, ◌+◌, ◌*◌, ◌/◌, ◌%◌, ◌≤◌, ◌<◌}
 use Rattle.std.proofs.Common.{inl, inr, ⊎_elim, ap, sym, ◌∙◌, subst, arith}
 use Rattle.std.proofs.Math.Logic.{by_cases}
 use Rattle.std.proofs.Math.Logic.Dec
@@ -23,7 +23,7 @@ use Rattle.table.specs.declared.Delay.{Delay}
 use Rattle.table.specs.declared.Delay.TheVariants.{Known, Unknown}
 use Rattle.table.specs.declared.Rule.{Rule}
 use Rattle.table.specs.declared.Table.{Table}
-use Rattle.table.specs.declared.Checked.{Checked}
+use Rattle.refusals.specs.Number.{Told}
 
 -- an unknown delay is within its limits, a known one up to the highest
 abbrev pub DelayOk : Delay → Type 0
@@ -67,14 +67,14 @@ pub record FirstBad (t : Table) (k : ℕ) : Type 0 where
   pub bad : ¬ (Ok t k)
   pub before : (j : ℕ) → j < k → Ok t j
 
--- j is the first field of the rule x outside its limits, or 4 when there is none
+-- j is the first field of the rule x outside its limits
 pub record FirstIn (n : ℕ) (x : Rule) (j : ℕ) : Type 0 where
-  pub counted : j ≤ 4
-  pub bad : j < 4 → ¬ (RuleOk n x j)
+  pub counted : j < 4
+  pub bad : ¬ (RuleOk n x j)
   pub before : (i : ℕ) → i < j → RuleOk n x i
 
 -- a table within its limits is not refused; any other is refused 3 at its first field outside them
-abbrev pub Judged : Table → Checked → Type 0
+abbrev pub Judged : Table → Told → Type 0
 Judged t x = (Within t × (x.refusal ≡ 0) × (x.place ≡ 0)) ⊎ (FirstBad t x.place × (x.refusal ≡ 3))
 
 -- Laws of the first field --------------------------------------------------------------------------------------------------
@@ -104,93 +104,12 @@ module _ (t : Table) (r j : ℕ) (h : j < 4) where
 
 -- Laws of one rule's fields ------------------------------------------------------------------------------------------------
 
--- the fields before j of a rule, one by one
-upto_1 : (n : ℕ) (x : Rule) → x.source < n → (i : ℕ) → i < 1 → RuleOk n x i
-upto_1 n x s zero h = s
-upto_1 n x s (suc i) h = absurd (omega arith)
-
-upto_2 : (n : ℕ) (x : Rule) → (x.source < n) × (x.target < n) → (i : ℕ) → i < 2 → RuleOk n x i
-upto_2 n x s zero h = s.0
-upto_2 n x s (suc zero) h = s.1
-upto_2 n x s (suc (suc i)) h = absurd (omega arith)
-
-upto_3 : (n : ℕ) (x : Rule) → (x.source < n) × (x.target < n) × (x.offset ≤ max_offset) → (i : ℕ) → i < 3 → RuleOk n x i
-upto_3 n x s zero h = s.0
-upto_3 n x s (suc zero) h = s.1
-upto_3 n x s (suc (suc zero)) h = s.2
-upto_3 n x s (suc (suc (suc i))) h = absurd (omega arith)
-
-upto_4 : (n : ℕ) (x : Rule) → RuleWithin n x → (i : ℕ) → RuleOk n x i
-upto_4 n x w zero = w.source
-upto_4 n x w (suc zero) = w.target
-upto_4 n x w (suc (suc zero)) = w.offset
-upto_4 n x w (suc (suc (suc i))) = w.delay
-
--- a delay within its limits, from what a match says
-pub known_ok : {x : Delay} (d : ℕ) → x ≡ Known d → d ≤ max_delay → DelayOk x
-known_ok d e h = subst DelayOk (sym e) h
-
-pub unknown_ok : {x : Delay} → x ≡ Unknown → DelayOk x
-unknown_ok e = subst DelayOk (sym e) tt
-
-module _ (n : ℕ) (x : Rule) where
-  -- the first field outside its limits, from what the tests say
-  pub first_source : n ≤ x.source → FirstIn n x 0
-  first_source h = record { counted = omega arith; bad = λ _ o. omega arith; before = λ i g. absurd (omega arith) }
-
-  pub first_target : (x.source < n) × (n ≤ x.target) → FirstIn n x 1
-  first_target h = record { counted = omega arith; bad = λ _ o. omega arith; before = upto_1 n x h.0 }
-
-  pub first_offset : (x.source < n) × (x.target < n) × (max_offset < x.offset) → FirstIn n x 2
-  first_offset h = record { counted = omega arith; bad = λ _ o. omega arith; before = upto_2 n x (h.0, h.1) }
-
-  pub first_delay : (x.source < n) × (x.target < n) × (x.offset ≤ max_offset) → (d : ℕ) → x.delay ≡ Known d → max_delay < d → FirstIn n x 3
-  first_delay h d e g = record { counted = omega arith; bad = λ _ o. late (subst DelayOk e o); before = upto_3 n x h }
-    where
-      late : d ≤ max_delay → ⊥
-      late o = omega arith
-
-  pub first_none : (x.source < n) × (x.target < n) × (x.offset ≤ max_offset) → DelayOk x.delay → FirstIn n x 4
-  first_none h d = record { counted = omega arith; bad = λ g. absurd (omega arith); before = λ i _. upto_4 n x (record { source = h.0; target = h.1; offset = h.2; delay = d }) i }
-
--- Laws of the check --------------------------------------------------------------------------------------------------------
-
--- the two fields before any rule
-pub two_fields : (t : Table) → (min_n ≤ t.n) × (t.n ≤ max_n) × (t.m ≤ max_m) → (k : ℕ) → k < 2 → Ok t k
-two_fields t h zero g = (h.0, h.1)
-two_fields t h (suc zero) g = h.2
-two_fields t h (suc (suc k)) g = absurd (omega arith)
-
--- the fields up to rule r, and those of rule r before its field j
-pub fields_upto : (t : Table) (r j : ℕ) → ((k : ℕ) → k < 2 + 4 * r → Ok t k) → FirstIn t.n (rule_of t r) j → (k : ℕ) → k < 2 + 4 * r + j → Ok t k
-fields_upto t r j all h k g =
-    by_cases (dec_lt k (2 + 4 * r)) (all k)
-    (λ l. subst (Ok t) (at l) (rule_field t r i (omega (arith, h.counted)) (h.before i (omega arith))))
-  where
-    i : ℕ
-    i = k - (2 + 4 * r)
-
-    at : ¬ (k < 2 + 4 * r) → 2 + 4 * r + i ≡ k
-    at l = omega arith
-
--- a turn of the check: no field of rule r is outside its limits
-pub fields_more : (t : Table) (r : ℕ) → ((k : ℕ) → k < 2 + 4 * r → Ok t k) → FirstIn t.n (rule_of t r) 4 → (k : ℕ) → k < 2 + 4 * (r + 1) → Ok t k
-fields_more t r all h k g = fields_upto t r 4 all h k (omega arith)
-
--- a field of rule r found outside its limits
-pub found_bad : (t : Table) (r j : ℕ) → ((k : ℕ) → k < 2 + 4 * r → Ok t k) → FirstIn t.n (rule_of t r) j → (r < t.m) × (j < 4) → FirstBad t (2 + 4 * r + j)
-found_bad t r j all h g = record { counted = omega arith; bad = λ o. h.bad g.1 (field_rule t r j g.1 o); before = fields_upto t r j all h }
-
--- n found outside its limits, and m
-pub bad_n : (t : Table) → (t.n < min_n) ⊎ (max_n < t.n) → FirstBad t 0
-bad_n t h = record { counted = omega arith; bad = λ o. ⊎_elim (λ l. omega arith) (λ l. omega arith) h; before = λ j g. absurd (omega arith) }
-
-pub bad_m : (t : Table) → (min_n ≤ t.n) × (t.n ≤ max_n) × (max_m < t.m) → FirstBad t 1
-bad_m t h = record { counted = omega arith; bad = λ o. omega arith; before = only_n }
-  where
-    only_n : (j : ℕ) → j < 1 → Ok t j
-    only_n zero g = (h.0, h.1)
-    only_n (suc j) g = absurd (omega arith)
+-- a rule within its limits is so field by field
+fields_of : (n : ℕ) (x : Rule) → RuleWithin n x → (i : ℕ) → RuleOk n x i
+fields_of n x w zero = w.source
+fields_of n x w (suc zero) = w.target
+fields_of n x w (suc (suc zero)) = w.offset
+fields_of n x w (suc (suc (suc i))) = w.delay
 
 -- Within, and Ok of every field --------------------------------------------------------------------------------------------
 
@@ -212,7 +131,7 @@ ok_within t all = record {
 pub within_ok : (t : Table) → Within t → (k : ℕ) → k < fields t → Ok t k
 within_ok t w zero h = (w.n_low, w.n_high)
 within_ok t w (suc zero) h = w.m_high
-within_ok t w (suc (suc k)) h = upto_4 t.n (rule_of t (k / 4)) (w.rule (k / 4) (omega arith)) (k % 4)
+within_ok t w (suc (suc k)) h = fields_of t.n (rule_of t (k / 4)) (w.rule (k / 4) (omega arith)) (k % 4)
 
 pub within_not_bad : (t : Table) (k : ℕ) → Within t → FirstBad t k → ⊥
 within_not_bad t k w b = b.bad (within_ok t w k b.counted)
@@ -246,11 +165,11 @@ first_to t (suc k) h =
 pub within_or_first_bad : (t : Table) → Within t ⊎ ((k : ℕ) × FirstBad t k)
 within_or_first_bad t = ⊎_elim (λ all. inl (ok_within t all)) (λ b. inr b) (first_to t (fields t) (omega arith))
 
-same_checked : (x y : Checked) → x.refusal ≡ y.refusal → x.place ≡ y.place → x ≡ y
+same_checked : (x y : Told) → x.refusal ≡ y.refusal → x.place ≡ y.place → x ≡ y
 same_checked x y e f = ap (λ r. record { refusal = r; place = x.place }) e ∙ ap (λ p. record { refusal = y.refusal; place = p }) f
 
 -- A SINGLE OUTCOME: THE CHECK OF A TABLE
-pub judged_unique : (t : Table) (x y : Checked) → Judged t x → Judged t y → x ≡ y
+pub judged_unique : (t : Table) (x y : Told) → Judged t x → Judged t y → x ≡ y
 judged_unique t x y (inl a) (inl b) = same_checked x y (a.1 ∙ sym b.1) (a.2 ∙ sym b.2)
 judged_unique t x y (inl a) (inr b) = absurd (within_not_bad t y.place a.0 b.0)
 judged_unique t x y (inr a) (inl b) = absurd (within_not_bad t x.place b.0 a.0)

@@ -1,19 +1,23 @@
 // A table of transitions and rules, its limits, and the check of a table handed in.
 #![tactic(auto)]
 
-ghost use Rattle.std.specs.Prelude.{◌≡◌, ◌+◌, ◌*◌, ◌<◌};
+ghost use Rattle.std.specs.Prelude.{◌≡◌, MatchOption};
 ghost use Rattle.table.specs.Limits.{min_n, max_n, max_m, max_offset, max_delay, min_occurrences, max_occurrences};
 ghost use Rattle.table.specs.Form.{empty_table};
-ghost use Rattle.table.specs.Fields.{FirstIn, Judged};
+ghost use Rattle.table.specs.Fields.{RuleWithin, FirstIn, Judged};
+ghost use Rattle.refusals.specs.Number.{told};
 
-// A delay is known, with its value, or unknown. Unknown stands first: then the value that the checker takes for a missing rule is the unused rule.
-#[derive(Clone, Copy)]
+use refusals::{Refusal, Why};
+
+// A delay is known, with its value, or unknown. (No Option: that an unknown is no number is the rule of the whole project, and so has a type of its own.)
+// Unknown stands first: then the value that the checker takes for a missing rule is the unused rule.
+#[derive(Clone, Copy, PartialEq, Eq, Debug)]
 pub enum Delay {
     Unknown,
     Known(u32),
 }
 
-#[derive(Clone, Copy)]
+#[derive(Clone, Copy, PartialEq, Eq, Debug)]
 pub struct Rule {
     pub source: u16,
     pub target: u16,
@@ -21,7 +25,7 @@ pub struct Rule {
     pub delay: Delay,
 }
 
-// The first m places hold the rules; what lies in the others is never looked at.
+// The first m places hold the rules; what lies in the others is never looked at, so a table has no derived `==`.
 #[derive(Clone, Copy)]
 pub struct Table {
     pub n: usize,
@@ -69,85 +73,40 @@ fn limits()
     ensures occurrences { (Table.MIN_OCCURRENCES ≡ min_occurrences) × (Table.MAX_OCCURRENCES ≡ max_occurrences) }
 {}
 
-// What the check of a table hands back: 0 and 0, or 3 and the first field outside its limits, counted in file order.
-#[derive(Clone, Copy)]
-pub struct Checked {
-    pub refusal: u32,
-    pub place: usize,
-}
-
-const RANGE: u32 = 3;
-
-// A cast of a field wants a function of its own to be proved without a file.
-fn wide(x: u16) -> usize
-    ensures { result ≡ x }
+// The first field of a rule outside its limits, counted from its source.
+fn first_in(n: usize, rule: Rule) -> Option<usize>
+    ensures { MatchOption result (RuleWithin n rule) (FirstIn n rule) }
 {
-    x as usize
-}
-
-// The first field of a rule outside its limits, counted from its source; 4 when there is none.
-fn first_in(n: usize, rule: Rule) -> usize
-    ensures { FirstIn n rule result }
-{
-    if n <= wide(rule.source) {
-        return 0;
+    if n <= usize::from(rule.source) {
+        return Some(0);
     }
-    if n <= wide(rule.target) {
-        return 1;
+    if n <= usize::from(rule.target) {
+        return Some(1);
     }
     if Table::MAX_OFFSET < rule.offset {
-        return 2;
+        return Some(2);
     }
     let delay = rule.delay;
     match delay {
-        Delay::Unknown => 4,
-        Delay::Known(d) => {
-            if Table::MAX_DELAY < d {
-                return 3;
-            }
-            4
-        }
+        Delay::Known(d) if Table::MAX_DELAY < d => Some(3),
+        _ => None,
     }
 }
 
-// The first field of the table that is outside its limits.
-pub fn check(t: Table) -> Checked
-    ensures { Judged t result }
+// Refused RANGE at the first field outside its limits, counted in file order.
+pub fn check(t: Table) -> Result<(), Refusal>
+    ensures { Judged t (told result) }
 {
-    let n = t.n;
-    let m = t.m;
-    if n < Table::MIN_N {
-        return Checked {
-            refusal: RANGE,
-            place: 0,
-        };
+    if t.n < Table::MIN_N || Table::MAX_N < t.n {
+        return Err(Why::Range.at(0));
     }
-    if Table::MAX_N < n {
-        return Checked {
-            refusal: RANGE,
-            place: 0,
-        };
+    if Table::MAX_M < t.m {
+        return Err(Why::Range.at(1));
     }
-    if Table::MAX_M < m {
-        return Checked {
-            refusal: RANGE,
-            place: 1,
-        };
-    }
-    let mut r = 0;
-    while r < m {
-        let rule = t.rules[r];
-        let field = first_in(n, rule);
-        if field < 4 {
-            return Checked {
-                refusal: RANGE,
-                place: 2 + 4 * r + field,
-            };
+    for r in 0..t.m {
+        if let Some(field) = first_in(t.n, t.rules[r]) {
+            return Err(Why::Range.at(2 + 4 * r + field));
         }
-        r += 1;
     }
-    Checked {
-        refusal: 0,
-        place: 0,
-    }
+    Ok(())
 }

@@ -2,12 +2,15 @@
 --
 --   ends_of r             the ends of the analysis r
 --   answer_of r l h x     the answer that it stands for, with the loops l and h and the schedule x
+--   told_answer r l h x   the same, of what is told of an analysis
 --   TableReport t r      what `judged` promises
 --   Sized n o            the lists of an outcome are there, and not long
 --
--- Laws: analysed_refused, analysed_answer, analysed_sized (an analysis with room), report_refused, report_judged.
-use Rattle.std.specs.Prelude.{◌≡◌, refl, List, ℕ, ◌≤◌, ◌<◌, ltb, length, take, drop, replicate}
-use Rattle.std.proofs.Common.{sym, ap, ◌∙◌, subst, arith, length-append, take_at, lt-ltb, le-ltb}
+-- Laws: listed_next, listed_same (numbers of either width), analysed_refused, analysed_answer, analysed_sized (an analysis with room), report_refused,
+-- report_judged.
+use Rattle.std.specs.Prelude.{◌≡◌, refl, List, [], ◌∷◌, ◌++◌, ℕ, ◌+◌, ◌≤◌, ◌<◌, ltb, length, get_or, take, drop, replicate}
+use Rattle.std.specs.List.{AllZip}
+use Rattle.std.proofs.Common.{sym, ap, ◌∙◌, subst, arith, add-one, length-append, take-suc, take_at, lt-ltb, le-ltb}
 use Rattle.std.proofs.lemmas.List.{length-replicate}
 use Rattle.std.proofs.Math.Seq.{take-append_seam}
 use Rattle.model.specs.Ends.{Range}
@@ -18,19 +21,42 @@ use Rattle.table.specs.Meaning.{shape_of, within_fits}
 use Rattle.engine.specs.Verdict.{Verdict, outside, knotted, flat, wide, found, Judges}
 use Rattle.rulefile.specs.declared.FileRead.{FileRead}
 use Rattle.rulefile.specs.File.{read_of}
-use Rattle.period.specs.declared.Analysis.{Analysis}
-use Rattle.period.specs.Promise.{Outcome, judged_outcome, room_for, outcome_of, AnalysisOf}
+use Rattle.period.specs.declared.Analysis.{Analysis as Given}
+use Rattle.period.specs.Promise.{Analysis, Outcome, judged_outcome, room_for, outcome_of, AnalysisOf}
 use Rattle.words.specs.declared.Text.{Text}
 use Rattle.words.specs.Decimal.{pick}
 use Rattle.words.specs.Lines.{refused_line_of}
 use Rattle.words.specs.Held.{Holds}
 use Rattle.text.specs.Text.{answer_text, verdict_text, TableText, ReadText, ReportOf}
 
-abbrev pub ends_of : Analysis → Range
+listed_more : {A : Type 0} (R : A → ℕ → Type 0) (xs : List A) (ns : List ℕ) (x : A) (n : ℕ) → AllZip R xs ns → R x n → AllZip R (xs ++ (x ∷ [])) (ns ++ (n ∷ []))
+listed_more R [] [] x n z h = (h, tt)
+listed_more R [] (m ∷ ns) x n z h = absurd z
+listed_more R (y ∷ xs) [] x n z h = absurd z
+listed_more R (y ∷ xs) (m ∷ ns) x n z h = (z.0, listed_more R xs ns x n z.1 h)
+
+-- one more of a list is handed over as a number
+pub listed_next : {A : Type 0} (R : A → ℕ → Type 0) (xs : List A) (i : ℕ) (x : A) (ns : List ℕ) (n : ℕ) → i < length xs → x ≡ get_or xs i x
+    → AllZip R (take i xs) ns → R x n → AllZip R (take (i + 1) xs) (ns ++ (n ∷ []))
+listed_next R xs i x ns n b e z h = rw (add-one, take-suc xs i x b, sym e) (listed_more R (take i xs) ns x n z h)
+
+-- numbers that are handed over as they are
+pub listed_same : (xs ns : List ℕ) → AllZip (λ x n. n ≡ x) xs ns → ns ≡ xs
+listed_same [] [] z = refl
+listed_same [] (n ∷ ns) z = absurd z
+listed_same (x ∷ xs) [] z = absurd z
+listed_same (x ∷ xs) (n ∷ ns) z = let e = z.0 in let f = listed_same xs ns z.1 in cc
+
+abbrev pub ends_of : Given → Range
 ends_of r = record { low_p = r.low.p; low_q = r.low.q; high_p = r.high.p; high_q = r.high.q; exact = r.exact }
 
-abbrev pub answer_of : Analysis → List ℕ → List ℕ → List ℕ → Answer
+abbrev pub answer_of : Given → List ℕ → List ℕ → List ℕ → Answer
 answer_of r l h x = record { ends = ends_of r; low_loop = l; high_loop = h; schedule = x }
+
+-- the same, of what is told of an analysis
+abbrev pub told_answer : Analysis → List ℕ → List ℕ → List ℕ → Answer
+told_answer r l h x =
+    record { ends = record { low_p = r.low.p; low_q = r.low.q; high_p = r.high.p; high_q = r.high.q; exact = r.exact }; low_loop = l; high_loop = h; schedule = x }
 
 -- what `judged` promises: the text for a table, held whole
 pub record TableReport (t : Table) (r : Text) : Type 0 where
@@ -43,7 +69,7 @@ abbrev made_text : ℕ → Outcome → List ℕ
 made_text n o =
     pick (ltb 0 o.result.refusal)
     (refused_line_of o.result.refusal o.result.place)
-    (answer_text (answer_of o.result (take o.result.low.len o.low) (take o.result.high.len o.high) (take n o.schedule)))
+    (answer_text (told_answer o.result (take o.result.low.len o.low) (take o.result.high.len o.high) (take n o.schedule)))
 
 same_answer : (a : Answer) (l h x : List ℕ) → l ≡ a.low_loop → h ≡ a.high_loop → x ≡ a.schedule
     → answer_text (record { ends = a.ends; low_loop = l; high_loop = h; schedule = x }) ≡ answer_text a
@@ -102,7 +128,7 @@ module _ (t : Table) where
 
     -- an answer
     pub analysed_answer : o.result.refusal ≤ 0
-        → TableText t (answer_text (answer_of o.result (take o.result.low.len o.low) (take o.result.high.len o.high) (take t.n o.schedule)))
+        → TableText t (answer_text (told_answer o.result (take o.result.low.len o.low) (take o.result.high.len o.high) (take t.n o.schedule)))
     analysed_answer b = simp (le-ltb 0 o.result.refusal b) at made
 
     pub analysed_sized : o.result.refusal ≤ 0 → Sized t.n o

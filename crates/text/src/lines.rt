@@ -1,5 +1,6 @@
 // The lines of a report, each put into a lent buffer from a place on, with a bound on what it takes.
-ghost use Rattle.std.specs.Prelude.{◌∷◌, ◌+◌, ◌*◌, ◌≤◌, length};
+ghost use Rattle.std.specs.Prelude.{◌∷◌, ◌+◌, ◌*◌, ◌≤◌, List, ℕ, length};
+ghost use Rattle.std.specs.List.{AllZip};
 ghost use Rattle.words.specs.Decimal.{ascii, numbers};
 ghost use Rattle.words.specs.Puts.{Puts};
 ghost use Rattle.text.specs.Text.{period_line_of, list_line, answer_text};
@@ -7,28 +8,13 @@ ghost use Rattle.text.specs.Made.{ends_of, answer_of};
 
 use period::Analysis;
 
-// Numbers, each after a space.
-fn values(xs: &[u64], out: &mut [u8], at: usize) -> usize
-    ensures { Puts (numbers xs.now) out.old at out.new result × (result ≤ at + 21 * length xs.now) }
+// Numbers, each after a space: values, or the numbers of rules.
+fn list<T: Copy + Into<u64>>(xs: &[T], out: &mut [u8], at: usize) -> usize
+    ensures { (ns : List ℕ) × AllZip T.converts xs.now ns × Puts (numbers ns) out.old at out.new result × (result ≤ at + 21 * length xs.now) }
 {
     let mut next = at;
-    let mut i = 0;
-    while i < xs.len() {
-        next = words::number(xs[i], out, next);
-        i += 1;
-    }
-    next
-}
-
-// The same for rule numbers.
-fn rules(xs: &[u32], out: &mut [u8], at: usize) -> usize
-    ensures { Puts (numbers xs.now) out.old at out.new result × (result ≤ at + 21 * length xs.now) }
-{
-    let mut next = at;
-    let mut i = 0;
-    while i < xs.len() {
-        next = words::number(words::wide(xs[i]), out, next);
-        i += 1;
+    for &x in xs {
+        next = words::number(x.into(), out, next);
     }
     next
 }
@@ -36,19 +22,17 @@ fn rules(xs: &[u32], out: &mut [u8], at: usize) -> usize
 fn period_line(a: Analysis, out: &mut [u8], at: usize) -> usize
     ensures { Puts (period_line_of (ends_of a)) out.old at out.new result × (result ≤ at + 99) }
 {
-    let low = a.low;
-    let high = a.high;
     if a.exact {
-        return words::exact_line(high.p, high.q, out, at);
+        return words::exact_line(a.high.p, a.high.q, out, at);
     }
-    words::range_line(low.p, low.q, high.p, high.q, out, at)
+    words::range_line(a.low.p, a.low.q, a.high.p, a.high.q, out, at)
 }
 
 fn loop_line(name: &[u8], xs: &[u32], out: &mut [u8], at: usize) -> usize
     ensures { Puts (list_line name.now xs.now) out.old at out.new result × (result ≤ at + length name.now + 21 * length xs.now + 1) }
 {
     let a = words::word(name, out, at);
-    let b = rules(xs, out, a);
+    let b = list(xs, out, a);
     words::byte(b'\n', out, b)
 }
 
@@ -57,16 +41,15 @@ fn schedule_line(q: u64, x: &[u64], out: &mut [u8], at: usize) -> usize
 {
     let a = words::word(b"schedule", out, at);
     let b = words::number(q, out, a);
-    let c = values(x, out, b);
+    let c = list(x, out, b);
     words::byte(b'\n', out, c)
 }
 
 pub fn answer(a: Analysis, low: &[u32], high: &[u32], x: &[u64], out: &mut [u8], at: usize) -> usize
     ensures { Puts (answer_text (answer_of a low.now high.now x.now)) out.old at out.new result × (result ≤ at + 138 + 21 * length low.now + 21 * length high.now + 21 * length x.now) }
 {
-    let end = a.high;
     let b = period_line(a, out, at);
     let c = loop_line(b"low", low, out, b);
     let d = loop_line(b"high", high, out, c);
-    schedule_line(end.q, x, out, d)
+    schedule_line(a.high.q, x, out, d)
 }

@@ -9,7 +9,7 @@ ghost use Rattle.words.specs.Puts.{Puts};
 ghost use Rattle.words.specs.Lines.{refused_words_of, refused_line_of, exact_line_of, range_line_of};
 ghost use Rattle.words.specs.Lines.{ratio as Lines·ratio};
 
-// A text: its length and its bytes, zeros after them. No text takes all the room.
+// A text: its length and its bytes, zeros after them (fixed memory). No text takes all the room.
 #[derive(Clone, Copy)]
 pub struct Text {
     pub len: usize,
@@ -25,19 +25,18 @@ pub fn byte(b: u8, out: &mut [u8], at: usize) -> usize
 {
     if at < out.len() {
         out[at] = b;
-        return at + 1;
+        at + 1
+    } else {
+        at
     }
-    at
 }
 
 pub fn word(s: &[u8], out: &mut [u8], at: usize) -> usize
     ensures { Puts s.now out.old at out.new result }
 {
     let mut next = at;
-    let mut i = 0;
-    while i < s.len() {
-        next = byte(s[i], out, next);
-        i += 1;
+    for &b in s {
+        next = byte(b, out, next);
     }
     next
 }
@@ -46,25 +45,18 @@ fn digit(d: u64) -> u8
     requires { d < 10 }
     ensures { result ≡ Decimal·digit d }
 {
-    48 + d as u8
+    b'0' + d as u8
 }
 
-// A number's tens, then its last digit.
-fn digits(v: u64, out: &mut [u8], at: usize) -> usize
-    ensures { Puts (Decimal·decimal v) out.old at out.new result }
+// A number in decimal: its tens, then its last digit.
+pub fn decimal(v: u64, out: &mut [u8], at: usize) -> usize
+    ensures { Puts (Decimal·decimal v) out.old at out.new result × (result ≤ at + 20) }
 {
     if v < 10 {
         return byte(digit(v), out, at);
     }
-    let next = digits(v / 10, out, at);
+    let next = decimal(v / 10, out, at);
     byte(digit(v % 10), out, next)
-}
-
-// A number in decimal.
-pub fn decimal(v: u64, out: &mut [u8], at: usize) -> usize
-    ensures { Puts (Decimal·decimal v) out.old at out.new result × (result ≤ at + 20) }
-{
-    digits(v, out, at)
 }
 
 // A number after a space.
@@ -83,28 +75,14 @@ pub fn ratio(p: u64, q: u64, out: &mut [u8], at: usize) -> usize
     decimal(q, out, b)
 }
 
-pub fn wide(x: u32) -> u64
-    ensures { result ≡ x }
-{
-    x as u64
-}
-
-pub fn wide_usize(x: usize) -> u64
-    ensures { result ≡ x }
-{
-    x as u64
-}
-
 // A refusal and its place.
 pub fn refused_words(refusal: u32, place: usize, out: &mut [u8], at: usize) -> usize
     ensures { Puts (refused_words_of refusal place) out.old at out.new result × (result ≤ at + 52) }
 {
-    let f = wide(refusal);
-    let p = wide_usize(place);
     let a = word(b"refused ", out, at);
-    let b = decimal(f, out, a);
+    let b = decimal(u64::from(refusal), out, a);
     let c = word(b" at ", out, b);
-    decimal(p, out, c)
+    decimal(place as u64, out, c)
 }
 
 pub fn refused_line(refusal: u32, place: usize, out: &mut [u8], at: usize) -> usize

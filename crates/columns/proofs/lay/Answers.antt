@@ -1,24 +1,34 @@
--- `columns::lay` meets its contract. The loop's invariant: the columns hold the first i rules (`Laid` at i).
--- The measure is what is left of m. Assumes nothing.
-use Rattle.std.proofs.Common.{◌≡◌, refl, sym, ◌∙◌, arith, false, true≢false}
+-- Each rule is laid by `laid_next`, and its fields are within their limits.
+use Rattle.std.proofs.Common.{◌≡◌, refl, ◌∙◌, arith}
 use Rattle.table.specs.Form.{rule_of}
-use Rattle.columns.specs.Lay.{laid_start, laid_next, ordered}
+use Rattle.columns.specs.Lay.{laid_start, laid_next, ordered, greatest_short}
 use Rattle.columns.proofs.lay.Goals as goal
-use Rattle.columns.proofs.lay.Goals.{then-x, else-x}
 
-pub loop-i-init : goal.loop-i-init
-loop-i-init c = (refl, omega arith, c.requires.m_high, laid_start c.args.t)
+pub loop-r-init : goal.loop-r-init
+loop-r-init c =
+    let k = c.none-c.ensures.columns in
+    let z = c.none-c.ensures.sized in
+    (z.1, z.2, rw (k.0, k.1, k.2, k.3, k.4, z.0) (laid_start c.args.t))
 
-pub loop-i-preserved : goal.loop-i-preserved
-loop-i-preserved c =
-    let given : c.if-x.blank ≡ false → (c.loop-i.blank ≡ false) × (c.laid-x.result.least ≡ c.laid-x.result.greatest) =
-    λ e. elim c.if-x.branch [
-      | then-x w ↦ absurd (true≢false (sym w.blank-is ∙ e))
-      | else-x w ↦ (sym w.blank-is ∙ e, omega (arith, c.laid-x.ensures.least_value, w.if-x.false, ordered (rule_of c.args.t c.loop-i.i).delay))
-    ] in
-    (refl, omega arith, c.requires.m_high, laid_next c.args.t c.loop-i.i _ _ _ _ _ c.loop-i.blank c.if-x.blank _ _ _ _ _ c.loop-i.invariant.3 (omega arith) c.laid-x.ensures.source_value c.laid-x.ensures.least_value given)
+pub put-requires-clause-room : goal.put-requires-clause-room
+put-requires-clause-room c = omega (arith, c.requires.m_high)
 
-pub returns : goal.returns
-returns c =
-    let done : c.loop-i.i ≡ c.args.t.m = omega arith in
-    rw done at c.loop-i.invariant.3
+pub put-requires-clause-fits : goal.put-requires-clause-fits
+put-requires-clause-fits c =
+    let r = c.loop-r.r in
+    let w = c.requires.rule r c.loop-r-test.true in
+    let d = (rule_of c.args.t r).delay in
+    let same : c.loop-r.c.n ≡ c.args.t.n = c.loop-r.invariant.1 in (
+      omega (arith, w.source, same, c.laid.ensures.ends),
+      omega (arith, w.target, same, c.laid.ensures.ends),
+      omega (arith, w.offset, c.laid.ensures.ends),
+      omega (arith, ordered d, c.laid.ensures.delays),
+      omega (arith, greatest_short d w.delay, c.laid.ensures.delays),
+    )
+
+pub loop-r-preserved : goal.loop-r-preserved
+loop-r-preserved c =
+    let p = c.put.ensures in
+    let i = c.loop-r.invariant in
+    let next = laid_next c.args.t c.loop-r.r _ _ _ _ _ c.loop-r.c.blank c.put.new.self.blank _ _ _ _ _ i.2 (omega (arith, c.requires.m_high)) c.laid.ensures.ends c.laid.ensures.delays p.no_blank in
+    (p.sized.0 ∙ (rw i.0 refl), p.sized.1 ∙ i.1, rw (p.ends.0, p.ends.1, p.ends.2, p.delays.0, p.delays.1, i.0) next)

@@ -1,11 +1,7 @@
--- `columns::lay` meets its contract. The loop's invariant: the columns hold the first i rules (`Laid` at i).
--- The measure is what is left of m. Assumes nothing.
-use Rattle.std.proofs.Common.{◌-◌, ◌≤◌, ◌≡◌}
+-- `columns::lay`: the columns hold the first r rules.
+use Rattle.std.proofs.Common.{◌≡◌}
 use Rattle.columns.specs.Lay.{Laid}
 use Rattle.columns.proofs.lay.Given as goal
 
-abbrev pub invariant-loop-i : goal.invariant-loop-i
-invariant-loop-i l = (l.m ≡ l.t.m) × (l.i ≤ l.m) × (l.m ≤ 2048) × Laid l.t l.i l.c.source l.c.target l.c.offset l.c.least l.c.greatest l.blank
-
-abbrev pub decreases-loop-i : goal.decreases-loop-i
-decreases-loop-i l = l.m - l.i
+abbrev pub invariant-loop-r : goal.invariant-loop-r
+invariant-loop-r l = (l.c.m ≡ l.r) × (l.c.n ≡ l.t.n) × Laid l.t l.r l.c.source l.c.target l.c.offset l.c.least l.c.greatest l.c.blank

@@ -7,5 +7,5 @@ use Rattle.loops.proofs.away.Goals as goal
 pub returns-then-t-v : goal.returns-then-t-v
 returns-then-t-v c = let a = c.args in sym (away_home a.v a.t a.d c.if-t-v.true)
 
-pub returns : goal.returns
-returns c = let a = c.args in c.wide.ensures ∙ sym (away_other a.v a.t a.d (λ e. omega arith))
+pub returns-else-t-v : goal.returns-else-t-v
+returns-else-t-v c = let a = c.args in c.from.ensures ∙ sym (away_other a.v a.t a.d (λ e. omega arith))

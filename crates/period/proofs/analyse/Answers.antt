@@ -1,45 +1,64 @@
--- `analyse` meets its contract: each way out is what the promise says of the engine's verdict (`analysed-..`).
+-- `analyse` meets its contract: what is copied fits, and the answer is what the promise says of the engine's verdict (`analysed_found`). The refusals need no answer.
 -- Assumes nothing.
-use Rattle.std.proofs.Common.{arith}
-use Rattle.period.specs.Steps.{analysed_outside, analysed_short_schedule, analysed_short_low, analysed_short_high, analysed_refused, analysed_found, lap_within, lap_short, made_analysis}
+use Rattle.std.proofs.Common.{◌≡◌, Ok, ℕ, List, ◌++◌, drop, ap, arith, length-take-le, sym, ◌∙◌}
+use Rattle.engine.specs.Lap.{told_lap, LapOf}
+use Rattle.period.specs.Steps.{analysed_found, lap_within, lap_short, made_analysis}
 use Rattle.period.proofs.analyse.Goals as goal
+use Rattle.period.proofs.analyse.Goals.{In_ok-lap, in_default-2, in_default}
 
-pub returns-then-lap-eq-RANGE : goal.returns-then-lap-eq-RANGE
-returns-then-lap-eq-RANGE c = analysed_outside _ _ c.measure-lap.ensures _ _ _ _ c.if-lap-eq-RANGE.true c.refused.ensures
+-- what was measured comes through the match
+measured : (c : In_ok-lap) → LapOf c.args.t (told_lap (Ok c.in_ok-lap.lap))
+measured c =
+    let same : c.measure.result ≡ c.match-measure.lap =
+    elim c.match-measure.branch [ in_default-2 w ↦ w.in-Err.is ∙ sym w.lap-is | in_default w ↦ sym w.lap-is ] in
+    rw (same ∙ c.in_ok-lap.was) at c.measure.ensures
 
-pub returns-then-schedule-n : goal.returns-then-schedule-n
-returns-then-schedule-n c = analysed_short_schedule _ _ c.measure-lap.ensures _ _ _ _ c.if-lap-eq-RANGE.false c.refused-then-schedule-n.ensures c.if-schedule-n.true
+-- what was copied stands before the rest
+put : (n : ℕ) (out : List ℕ) {xs ys : List ℕ} → ys ≡ xs → ys ++ drop n out ≡ xs ++ drop n out
+put n out e = ap (λ (l : List ℕ). l ++ drop n out) e
 
-pub returns-then-low-n : goal.returns-then-low-n
-returns-then-low-n c = analysed_short_low _ _ c.measure-lap.ensures _ _ _ _ c.if-lap-eq-RANGE.false c.refused-then-low-n.ensures c.if-schedule-n.false c.if-low-n.true
+pub slice_bounds-copy_from_slice-end-4 : goal.slice_bounds-copy_from_slice-end-4
+slice_bounds-copy_from_slice-end-4 c =
+    let room = c.if-low-n.false in
+    omega (arith, (lap_short _ _ (measured (goal.at.slice_bounds-copy_from_slice-end-4 c).In_ok-lap)).0)
 
-pub returns-then-high-n : goal.returns-then-high-n
-returns-then-high-n c = analysed_short_high _ _ c.measure-lap.ensures _ _ _ _ c.if-lap-eq-RANGE.false c.refused-then-high-n.ensures c.if-schedule-n.false c.if-low-n.false c.if-high-n.true
+pub slice_bounds-copy_from_slice-end-5 : goal.slice_bounds-copy_from_slice-end-5
+slice_bounds-copy_from_slice-end-5 c =
+    let room = c.if-low-n.false in
+    sym (length-take-le _ _ (omega (arith, (lap_short _ _ (measured (goal.at.slice_bounds-copy_from_slice-end-5 c).In_ok-lap)).0)))
 
-pub returns-then-lap-gt0 : goal.returns-then-lap-gt0
-returns-then-lap-gt0 c = analysed_refused _ _ c.measure-lap.ensures _ _ _ _ c.if-schedule-n.false c.if-low-n.false c.if-high-n.false c.if-lap-eq-RANGE.false c.if-lap-gt0.true c.refused-then-lap-gt0.ensures
-
-pub put_values-requires : goal.put_values-requires
-put_values-requires c = ((lap_within _ _ c.measure-lap.ensures c.if-lap-eq-RANGE.false).n_high, c.if-schedule-n.false)
-
-pub put_rules-requires : goal.put_rules-requires
-put_rules-requires c =
-    let is = c.measure-lap.ensures in
-    let few = (lap_within _ _ is c.if-lap-eq-RANGE.false).n_high in
+pub copy_from_slice-requires-2 : goal.copy_from_slice-requires-2
+copy_from_slice-requires-2 c =
+    let is = measured (goal.at.copy_from_slice-requires-2 c).In_ok-lap in
+    let few = (lap_within _ _ is (omega arith)).n_high in
     let short = lap_short _ _ is in
     let room = c.if-low-n.false in
-    (omega arith, omega arith)
+    length-take-le _ _ (omega arith) ∙ sym (length-take-le _ _ (omega arith))
 
-pub put_rules-requires-2 : goal.put_rules-requires-2
-put_rules-requires-2 c =
-    let is = c.measure-lap.ensures in
-    let few = (lap_within _ _ is c.if-lap-eq-RANGE.false).n_high in
+pub slice_bounds-copy_from_slice-end-7 : goal.slice_bounds-copy_from_slice-end-7
+slice_bounds-copy_from_slice-end-7 c =
+    let room = c.if-high-n.false in
+    omega (arith, (lap_short _ _ (measured (goal.at.slice_bounds-copy_from_slice-end-7 c).In_ok-lap)).1)
+
+pub slice_bounds-copy_from_slice-end-8 : goal.slice_bounds-copy_from_slice-end-8
+slice_bounds-copy_from_slice-end-8 c =
+    let room = c.if-high-n.false in
+    sym (length-take-le _ _ (omega (arith, (lap_short _ _ (measured (goal.at.slice_bounds-copy_from_slice-end-8 c).In_ok-lap)).1)))
+
+pub copy_from_slice-requires-3 : goal.copy_from_slice-requires-3
+copy_from_slice-requires-3 c =
+    let is = measured (goal.at.copy_from_slice-requires-3 c).In_ok-lap in
+    let few = (lap_within _ _ is (omega arith)).n_high in
     let short = lap_short _ _ is in
     let room = c.if-high-n.false in
-    (omega arith, omega arith)
+    length-take-le _ _ (omega arith) ∙ sym (length-take-le _ _ (omega arith))
 
 pub returns : goal.returns
 returns c =
-    let is = c.measure-lap.ensures in
-    analysed_found _ _ is _ _ _ (made_analysis c.measure-lap.result) c.if-schedule-n.false c.if-low-n.false c.if-high-n.false c.if-lap-eq-RANGE.false c.if-lap-gt0.false _ _ _
-    c.put_values.ensures c.put_rules.ensures c.put_rules-2.ensures
+    let is = measured (goal.at.returns c).In_ok-lap in
+    let lap = c.in_ok-lap.lap in
+    rw (c.from.ensures, c.from-2.ensures)
+    (analysed_found _ _ is _ _ _ (made_analysis (told_lap (Ok lap))) c.if-schedule-n.false c.if-low-n.false c.if-high-n.false (omega arith) (omega arith) _ _ _
+    (put c.args.t.n c.args.schedule.now c.copy_from_slice.ensures.after)
+    (put lap.low.len c.args.low.now c.copy_from_slice-2.ensures.after)
+    (put lap.high.len c.args.high.now c.copy_from_slice-3.ensures.after))

@@ -1,22 +1,14 @@
--- `rates_text::group` meets its contract: by its tests. No loop. Assumes nothing.
-use Rattle.std.proofs.Common.{arith, sym, ◌∙◌}
-use Rattle.rates_text.specs.Rates.{group_past, group_far, group_shown, group_first}
+-- `rates_text::group` meets its contract: by its tests. Assumes nothing.
+use Rattle.std.proofs.Common.{sym, ◌∙◌}
+use Rattle.rates_text.specs.Rates.{told_group, group_past, group_far, group_shown}
 use Rattle.rates_text.proofs.group.Goals as goal
+use Rattle.rates_text.proofs.group.Goals.{then-all-v-via-then-all-v, then-all-v-via-else-all-v+then-v-ge256, then-all-v-via-else-all-v+else-v-ge256+then-earlier}
 
 pub returns-then-all-v : goal.returns-then-all-v
-returns-then-all-v c = group_past c.args.all c.args.v _ c.if-all-v.true c.nothing.ensures
-
-pub returns-then-v-ge256 : goal.returns-then-v-ge256
-returns-then-v-ge256 c = group_far c.args.all c.args.v _ c.if-all-v.false c.if-v-ge256.true c.nothing-then-v-ge256.ensures
-
-pub earlier-requires : goal.earlier-requires
-earlier-requires c = omega (arith, c.if-v-ge256.false)
-
-pub returns-then-earlier : goal.returns-then-earlier
-returns-then-earlier c = group_shown c.args.all c.args.v _ c.if-all-v.false c.if-v-ge256.false (sym c.earlier.ensures ∙ c.if-earlier.true) c.nothing-then-earlier.ensures
-
-pub group_line-requires : goal.group_line-requires
-group_line-requires c = omega (arith, c.if-v-ge256.false)
-
-pub returns : goal.returns
-returns c = group_first c.args.all c.args.v _ c.if-all-v.false c.if-v-ge256.false (sym c.earlier.ensures ∙ c.if-earlier.false) c.group_line.ensures
+returns-then-all-v c =
+    elim c.then-all-v.branch [
+      | then-all-v-via-then-all-v w ↦ group_past (told_group c.args.all.now) c.args.v _ w.if-all-v.true c.nothing.ensures
+      | then-all-v-via-else-all-v+then-v-ge256 w ↦ group_far (told_group c.args.all.now) c.args.v _ w.if-all-v.false w.if-v-ge256.true c.nothing.ensures
+      | then-all-v-via-else-all-v+else-v-ge256+then-earlier w ↦
+          group_shown (told_group c.args.all.now) c.args.v _ w.if-all-v.false w.if-v-ge256.false (sym w.earlier.ensures ∙ w.if-earlier.true) c.nothing.ensures
+    ]

@@ -1,19 +1,11 @@
--- `rates_text::transition` meets its contract. The loop's invariant: the number that the digits passed say. The measure is how many are left.
--- Assumes nothing.
-use Rattle.std.proofs.Common.{◌≡◌, subst, length, arith}
-use Rattle.rates_text.specs.Rates.{told_to, told_none, told_next}
+-- `rates_text::transition` meets its contract: the fold is the one that `told_all` tells of. Assumes nothing.
+use Rattle.std.proofs.Common.{rules, ◌≡◌, ◌∙◌, fold}
+use Rattle.std.proofs.iter.runs.Made.{chains}
+use Rattle.rates_text.specs.Rates.{more_told, told_all}
 use Rattle.rates_text.proofs.transition.Goals as goal
-
-pub loop-i-init : goal.loop-i-init
-loop-i-init c = (omega arith, told_none _)
-
-pub loop-i-preserved : goal.loop-i-preserved
-loop-i-preserved c =
-    let s = c.args.digits.now in
-    (omega arith, told_next s c.loop-i.i c.loop-i.v _ c.loop-i.invariant.1 c.shifted-v.ensures)
 
 pub returns : goal.returns
 returns c =
     let s = c.args.digits.now in
-    let e : c.loop-i.i ≡ length s = omega arith in
-    subst (λ i. c.loop-i.v ≡ told_to s i) e c.loop-i.invariant.1
+    let e : c.fold.result ≡ fold more_told 0 s = search (rules, chains) in
+    e ∙ told_all s

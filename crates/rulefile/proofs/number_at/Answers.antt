@@ -1,28 +1,28 @@
 -- `rulefile::number_at` meets its contract: what the number reader says of the part from `at` on, counted from the file's start. No loop. Assumes nothing.
 use Rattle.std.proofs.Common.{arith}
-use Rattle.rulefile.specs.Steps.{num_told, num_bad_lem, num_good_lem}
+use Rattle.refusals.specs.Number.{number_positive}
+use Rattle.rulefile.specs.Steps.{num_inside, num_bad_lem, num_good_lem}
 use Rattle.rulefile.proofs.number_at.Goals as goal
-
-pub overflow_add-result : goal.overflow_add-result
-overflow_add-result c =
-    let a = c.args in
-    let e = c.number-rest.ensures.answer in
-    omega (arith, num_told a.bytes.now a.at a.low a.high _ _ _ _ e)
-
-pub returns-then-refusal-gt0 : goal.returns-then-refusal-gt0
-returns-then-refusal-gt0 c =
-    let a = c.args in
-    let e = c.number-rest.ensures.answer in
-    (num_bad_lem a.bytes.now a.at a.low a.high _ _ _ _ e c.if-refusal-gt0.true, omega arith)
 
 pub overflow_sub-result : goal.overflow_sub-result
 overflow_sub-result c =
     let a = c.args in
-    let e = c.number-rest.ensures.answer in
-    omega (arith, num_told a.bytes.now a.at a.low a.high _ _ _ _ e)
+    omega (arith, num_inside a.bytes.now a.at a.low a.high _ _ _ _ c.number.ensures.answer)
 
-pub returns : goal.returns
-returns c =
+pub overflow_add-at : goal.overflow_add-at
+overflow_add-at c =
     let a = c.args in
-    let e = c.number-rest.ensures.answer in
-    (num_good_lem a.bytes.now a.at a.low a.high _ _ _ _ e c.if-refusal-gt0.false, omega arith)
+    let e = rw c.in-Err-default.is-0 at c.number.ensures.answer in
+    omega (arith, num_inside a.bytes.now a.at a.low a.high _ _ _ _ e)
+
+pub returns-in-Ok-default-clause-told : goal.returns-in-Ok-default-clause-told
+returns-in-Ok-default-clause-told c =
+    let a = c.args in
+    let e = rw c.in-Ok-default.is-0 at c.number.ensures.answer in
+    num_good_lem a.bytes.now a.at a.low a.high _ _ _ _ e (omega arith)
+
+pub returns-in-Err-default-clause-told : goal.returns-in-Err-default-clause-told
+returns-in-Err-default-clause-told c =
+    let a = c.args in
+    let e = rw c.in-Err-default.is-0 at c.number.ensures.answer in
+    rw c.at.ensures (num_bad_lem a.bytes.now a.at a.low a.high _ _ _ _ e (number_positive c.in-Err-default.e.why))

@@ -3,19 +3,19 @@ use Rattle.std.proofs.Common.{arith}
 use Rattle.rulefile.specs.Steps.{put_fits, put_rule_lem}
 use Rattle.rulefile.proofs.put_rule.Goals as goal
 
-pub overflow_add-a : goal.overflow_add-a
-overflow_add-a c =
+pub overflow_add-at : goal.overflow_add-at
+overflow_add-at c =
     let f1 = put_fits _ _ _ _ _ c.put.ensures (omega arith) in
     omega arith
 
-pub overflow_add-b : goal.overflow_add-b
-overflow_add-b c =
+pub overflow_add-at-2 : goal.overflow_add-at-2
+overflow_add-at-2 c =
     let f1 = put_fits _ _ _ _ _ c.put.ensures (omega arith) in
     let f2 = put_fits _ _ _ _ _ c.put-2.ensures (omega arith) in
     omega arith
 
-pub overflow_add-c : goal.overflow_add-c
-overflow_add-c c =
+pub overflow_add-at-3 : goal.overflow_add-at-3
+overflow_add-at-3 c =
     let f1 = put_fits _ _ _ _ _ c.put.ensures (omega arith) in
     let f2 = put_fits _ _ _ _ _ c.put-2.ensures (omega arith) in
     let f3 = put_fits _ _ _ _ _ c.put-3.ensures (omega arith) in
@@ -32,5 +32,5 @@ overflow_add-result c =
 pub returns : goal.returns
 returns c =
     (put_rule_lem _ _ _ _ _ _ _ _ _ _ _ _ _ _ _ c.requires
-    (c.wide_u16.ensures, c.wide_u16-2.ensures, c.wide_u16-3.ensures, c.code_of.ensures)
+    (c.from.ensures, c.from-2.ensures, c.from-3.ensures, c.code_of.ensures)
     c.put.ensures c.put-2.ensures c.put-3.ensures c.put-4.ensures)

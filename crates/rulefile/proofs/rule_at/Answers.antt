@@ -1,65 +1,47 @@
 -- `rulefile::rule_at` meets its contract: the four numbers one after the other, each stage one law of specs/Steps.antt. No loop. Assumes nothing.
-use Rattle.std.proofs.Common.{ap, sym, ◌∙◌, arith}
-use Rattle.rulefile.specs.declared.RuleRead.{RuleRead}
-use Rattle.rulefile.specs.File.{rule_at_of}
-use Rattle.rulefile.specs.Steps.{then_next, then_stop, num_range, rule_same}
+use Rattle.std.proofs.Common.{◌≡◌, Err, refl, ap, sym, ◌∙◌, arith, rules}
+use Rattle.rulefile.specs.File.{rule_told, rule_at_of}
+use Rattle.rulefile.specs.Steps.{then_err, then_ok, num_in, rule_same}
 use Rattle.rulefile.proofs.rule_at.Goals as goal
 
-pub returns-then-source-gt0 : goal.returns-then-source-gt0
+pub returns-in_err-source-clause-told : goal.returns-in_err-source-clause-told
 unfolding rule_at_of
-returns-then-source-gt0 c = (
-  c.rule_bad.ensures ∙ sym (
-      then_stop _ _ _ _ c.number_at-source.ensures.0 c.if-source-gt0.true),
-  omega (arith, ap (λ (x : RuleRead). x.next) c.rule_bad.ensures),
-)
+returns-in_err-source-clause-told c =
+    let x = c.in_err-source in
+    let e : c.from_residual.result ≡ Err x.field-0.0 = search rules in
+    ap rule_told e ∙ sym (then_err _ _ _ x.field-0.0.why _ x.ensures.told)
 
-pub returns-then-target-gt0 : goal.returns-then-target-gt0
+pub returns-in_err-target-clause-told : goal.returns-in_err-target-clause-told
 unfolding rule_at_of
-returns-then-target-gt0 c = (
-  c.rule_bad-then-target-gt0.ensures ∙ sym (
-      then_next _ _ _ _ c.number_at-source.ensures.0 c.if-source-gt0.false
-      ∙ then_stop _ _ _ _ c.number_at-target.ensures.0 c.if-target-gt0.true),
-  omega (arith, ap (λ (x : RuleRead). x.next) c.rule_bad-then-target-gt0.ensures),
-)
+returns-in_err-target-clause-told c =
+    let x = c.in_err-target in
+    let e : c.from_residual-in_err-target.result ≡ Err x.field-0.0 = search rules in
+    ap rule_told e ∙ sym (then_ok _ _ _ _ _ c.in_ok-source.ensures.told ∙ then_err _ _ _ x.field-0.0.why _ x.ensures.told)
 
-pub returns-then-offset-gt0 : goal.returns-then-offset-gt0
+pub returns-in_err-offset-clause-told : goal.returns-in_err-offset-clause-told
 unfolding rule_at_of
-returns-then-offset-gt0 c = (
-  c.rule_bad-then-offset-gt0.ensures ∙ sym (
-      then_next _ _ _ _ c.number_at-source.ensures.0 c.if-source-gt0.false
-      ∙ then_next _ _ _ _ c.number_at-target.ensures.0 c.if-target-gt0.false
-      ∙ then_stop _ _ _ _ c.number_at-offset.ensures.0 c.if-offset-gt0.true),
-  omega (arith, ap (λ (x : RuleRead). x.next) c.rule_bad-then-offset-gt0.ensures),
-)
+returns-in_err-offset-clause-told c =
+    let x = c.in_err-offset in
+    let e : c.from_residual-in_err-offset.result ≡ Err x.field-0.0 = search rules in
+    ap rule_told e ∙ sym (then_ok _ _ _ _ _ c.in_ok-source.ensures.told ∙ then_ok _ _ _ _ _ c.in_ok-target.ensures.told ∙ then_err _ _ _ x.field-0.0.why _ x.ensures.told)
 
-pub returns-then-code-gt0 : goal.returns-then-code-gt0
+pub returns-in_err-code-clause-told : goal.returns-in_err-code-clause-told
 unfolding rule_at_of
-returns-then-code-gt0 c = (
-  c.rule_bad-then-code-gt0.ensures ∙ sym (
-      then_next _ _ _ _ c.number_at-source.ensures.0 c.if-source-gt0.false
-      ∙ then_next _ _ _ _ c.number_at-target.ensures.0 c.if-target-gt0.false
-      ∙ then_next _ _ _ _ c.number_at-offset.ensures.0 c.if-offset-gt0.false
-      ∙ then_stop _ _ _ _ c.number_at-code.ensures.0 c.if-code-gt0.true),
-  omega (arith, ap (λ (x : RuleRead). x.next) c.rule_bad-then-code-gt0.ensures),
-)
+returns-in_err-code-clause-told c =
+    let x = c.in_err-code in
+    let e : c.from_residual-in_err-code.result ≡ Err x.field-0.0 = search rules in
+    ap rule_told e ∙ sym (then_ok _ _ _ _ _ c.in_ok-source.ensures.told ∙ then_ok _ _ _ _ _ c.in_ok-target.ensures.told ∙ then_ok _ _ _ _ _ c.in_ok-offset.ensures.told ∙ then_err _ _ _ x.field-0.0.why _ x.ensures.told)
 
-pub narrow-requires : goal.narrow-requires
-narrow-requires c = omega (arith, c.requires, num_range _ _ _ _ _ c.number_at-source.ensures.0 c.if-source-gt0.false)
+pub overflow_cast-rule : goal.overflow_cast-rule
+overflow_cast-rule c = omega (arith, c.requires, num_in _ _ _ _ _ _ c.in_ok-source.ensures.told)
 
-pub narrow-requires-2 : goal.narrow-requires-2
-narrow-requires-2 c = omega (arith, c.requires, num_range _ _ _ _ _ c.number_at-target.ensures.0 c.if-target-gt0.false)
+pub overflow_cast-rule-2 : goal.overflow_cast-rule-2
+overflow_cast-rule-2 c = omega (arith, c.requires, num_in _ _ _ _ _ _ c.in_ok-target.ensures.told)
 
-pub narrow-requires-3 : goal.narrow-requires-3
-narrow-requires-3 c = omega (arith, num_range _ _ _ _ _ c.number_at-offset.ensures.0 c.if-offset-gt0.false)
+pub overflow_cast-rule-3 : goal.overflow_cast-rule-3
+overflow_cast-rule-3 c = omega (arith, num_in _ _ _ _ _ _ c.in_ok-offset.ensures.told)
 
-pub returns : goal.returns
+pub returns-clause-told : goal.returns-clause-told
 unfolding rule_at_of
-returns c = (
-  sym (
-      then_next _ _ _ _ c.number_at-source.ensures.0 c.if-source-gt0.false
-      ∙ then_next _ _ _ _ c.number_at-target.ensures.0 c.if-target-gt0.false
-      ∙ then_next _ _ _ _ c.number_at-offset.ensures.0 c.if-offset-gt0.false
-      ∙ then_next _ _ _ _ c.number_at-code.ensures.0 c.if-code-gt0.false
-      ∙ rule_same _ _ _ _ _ _ _ _ _ c.narrow.ensures c.narrow-2.ensures c.narrow-3.ensures c.delay_of-delay.ensures),
-  c.number_at-code.ensures.1,
-)
+returns-clause-told c =
+    sym (then_ok _ _ _ _ _ c.in_ok-source.ensures.told ∙ then_ok _ _ _ _ _ c.in_ok-target.ensures.told ∙ then_ok _ _ _ _ _ c.in_ok-offset.ensures.told ∙ then_ok _ _ _ _ _ c.in_ok-code.ensures.told ∙ rule_same _ _ _ _ _ _ _ _ _ refl refl refl c.delay_of.ensures)

@@ -9,8 +9,8 @@ pub returns : goal.returns
 unfolding rule_bytes
 returns c =
     let x = c.args.rule in
-    let source = c.length_of-source.ensures.0 ∙ ap code_length_of c.wide_u16.ensures in
-    let target = c.length_of-target.ensures.0 ∙ ap code_length_of c.wide_u16-2.ensures in
-    let offset = c.length_of-offset.ensures.0 ∙ ap code_length_of c.wide_u16-3.ensures in
-    let delay = c.length_of.ensures.0 ∙ ap code_length_of c.code_of.ensures in
+    let source = c.length_of.ensures.0 ∙ ap code_length_of c.from.ensures in
+    let target = c.length_of-2.ensures.0 ∙ ap code_length_of c.from-2.ensures in
+    let offset = c.length_of-3.ensures.0 ∙ ap code_length_of c.from-3.ensures in
+    let delay = c.length_of-4.ensures.0 ∙ ap code_length_of c.code_of.ensures in
     omega (arith, source, target, offset, delay, four_length x.source x.target x.offset (delay_code x.delay))

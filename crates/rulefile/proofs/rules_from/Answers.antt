@@ -1,41 +1,31 @@
--- `rulefile::rules_from` meets its contract. The loop's invariant: reading what is left, into the table as it stands, gives the answer that the whole gives.
--- The measure is the count of rules to come. Assumes nothing.
-use Rattle.std.proofs.Common.{◌+◌, ◌-◌, ◌≡◌, ap, sym, ◌∙◌, arith}
-use Rattle.table.specs.Form.{sized}
-use Rattle.table.specs.declared.Table.{Table}
-use Rattle.rulefile.specs.File.{rules_from_of}
-use Rattle.rulefile.specs.Steps.{sized_is, rules_bad, rules_good, rules_tail, rules_end}
+-- `rulefile::rules_from` meets its contract. Assumes nothing.
+use Rattle.std.proofs.Common.{◌≡◌, ◌+◌, ◌-◌, Result, Err, refl, ap, sym, ◌∙◌, arith, rules}
+use Rattle.refusals.specs.declared.Refusal.{Refusal}
+use Rattle.refusals.specs.Number.{number_positive}
+use Rattle.rulefile.specs.File.{table_told, rules_from_of}
+use Rattle.rulefile.specs.Steps.{rules_bad, rules_good, rules_tail, rules_end}
 use Rattle.rulefile.proofs.rules_from.Goals as goal
 
-pub loop-r-init : goal.loop-r-init
-loop-r-init c =
-    let a = c.args in
-    let e = sized_is a.n a.m _ _ c.wide.ensures c.empty-t.ensures in
-    let k : a.m ≡ a.m - 0 = omega arith in (
-      omega arith,
-      omega arith,
-      ap (rules_from_of a.bytes.now a.n (sized a.n a.m) a.from 0) k
-          ∙ ap (λ (t : Table). rules_from_of a.bytes.now a.n t a.from 0 (a.m - 0)) (sym e),
-    )
-
-pub returns-then-x-gt0 : goal.returns-then-x-gt0
-returns-then-x-gt0 c =
+pub returns-in_err-rule : goal.returns-in_err-rule
+returns-in_err-rule c =
     let a = c.args in
     let l = c.loop-r in
-    let x = c.rule_at-x in
-    c.file_bad.ensures
-    ∙ sym (l.invariant.2 ∙ rules_bad a.bytes.now a.n l.t l.at l.r (a.m - l.r) _ x.ensures.0 (omega arith) c.if-x-gt0.true)
+    let x = c.in_err-rule in
+    let e : c.from_residual.result ≡ Err x.field-0.0 = search rules in
+    ap (λ (y : Result (Unit {0}) Refusal). table_told y l.table) e
+    ∙ sym (l.invariant.2 ∙ rules_bad a.bytes.now a.n l.table l.at l.r (a.table.now.m - l.r) _ x.ensures.told (omega arith) (number_positive x.field-0.0.why))
 
 pub loop-r-preserved : goal.loop-r-preserved
 loop-r-preserved c =
     let a = c.args in
     let l = c.loop-r in
-    let x = c.rule_at-x in
-    let k : a.m - l.r - 1 ≡ a.m - (l.r + 1) = omega arith in (
-      omega arith,
-      x.ensures.1,
+    let m = a.table.now.m in
+    let x = c.in_ok-rule in
+    let k : m - l.r - 1 ≡ m - (l.r + 1) = omega arith in (
+      refl,
+      x.ensures.inside,
       l.invariant.2
-          ∙ rules_good a.bytes.now a.n l.t l.at l.r (a.m - l.r) _ x.ensures.0 (omega arith) c.if-x-gt0.false
+          ∙ rules_good a.bytes.now a.n l.table l.at l.r (m - l.r) _ x.ensures.told (omega arith) (omega arith)
           ∙ ap (rules_from_of a.bytes.now a.n _ _ _) k,
     )
 
@@ -43,11 +33,10 @@ pub returns-then-at-bytes : goal.returns-then-at-bytes
 returns-then-at-bytes c =
     let a = c.args in
     let l = c.loop-r in
-    c.file_bad-then-at-bytes.ensures
-    ∙ sym (l.invariant.2 ∙ rules_tail a.bytes.now a.n l.t l.at l.r (a.m - l.r) (omega arith) c.if-at-bytes.true)
+    rw c.at.ensures (sym (l.invariant.2 ∙ rules_tail a.bytes.now a.n l.table l.at l.r (a.table.now.m - l.r) (omega arith) c.if-at-bytes.true))
 
 pub returns : goal.returns
 returns c =
     let a = c.args in
     let l = c.loop-r in
-    sym (l.invariant.2 ∙ rules_end a.bytes.now a.n l.t l.at l.r (a.m - l.r) (omega arith) c.if-at-bytes.false)
+    sym (l.invariant.2 ∙ rules_end a.bytes.now a.n l.table l.at l.r (a.table.now.m - l.r) (omega arith) c.if-at-bytes.false)

@@ -1,12 +1,9 @@
--- `search::carry` meets its contract. The loop's invariant: k rules have asked (`Going`). The measure is what is left of them.
+-- `search::carry` meets its contract. The loop's invariant: as many rules of the list as were come to have asked (`Going`).
 -- Assumes nothing.
-use Rattle.std.proofs.Common.{◌-◌, ◌≤◌}
-use Rattle.columns.specs.Columns.{shape, delay_at}
+use Rattle.columns.specs.Views.{of_filled, delays_of}
 use Rattle.search.specs.Climbing.{None, Going}
 use Rattle.search.proofs.carry.Given as goal
 
-abbrev pub invariant-loop-k : goal.invariant-loop-k
-invariant-loop-k l = (l.k ≤ l.len) × Going (shape l.source l.target l.offset l.m) (delay_at l.delay) l.p l.q l.initial.x l.initial.par l.x l.par None l.k
-
-abbrev pub decreases-loop-k : goal.decreases-loop-k
-decreases-loop-k l = l.len - l.k
+abbrev pub invariant-loop-rule : goal.invariant-loop-rule
+invariant-loop-rule l =
+    Going (of_filled l.rules) (delays_of l.rules) l.at.p l.at.q l.initial.x l.initial.par l.x l.par None l.rule-index

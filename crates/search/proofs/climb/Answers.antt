@@ -1,50 +1,38 @@
--- `search::climb` meets its contract. The loop's invariant: the climb has come to p/q (`Rising`). The measure is the steps left above p/q.
--- Assumes nothing.
+-- Of `search::climb`. Assumes nothing.
+use Rattle.std.proofs.Common.{sym, ap, ◌∙◌}
+use Rattle.std.proofs.lemmas.Bool.{false≢true}
+use Rattle.std.specs.Prelude.{is_some}
 use Rattle.search.specs.Climbing.{rising_start, rising_query, rising_end, walk_loop, walk_turns, rising_walk, rising_less}
-use Rattle.search.proofs.climb.Goals.{then-start, else-start}
+use Rattle.search.proofs.climb.Goals.{in-Some, in-None}
 use Rattle.search.proofs.climb.Goals as goal
-
-pub order-order-requires : goal.order-order-requires
-order-order-requires c = c.requires.0
-
-pub start-first-requires : goal.start-first-requires
-start-first-requires c = (c.requires.0, c.requires.1)
 
 pub quotient-ratio-requires : goal.quotient-ratio-requires
 quotient-ratio-requires c =
-    walk_turns c.requires.2 c.requires.0.few_transitions (c.start-first.ensures.walk c.if-start.true)
+    walk_turns c.requires c.args.rules.now.limits.few_transitions (c.start-first.ensures c.in-Some.walk c.in-Some.is)
 
-pub loop-p-init : goal.loop-p-init
-loop-p-init c =
-    elim c.if-start.branch [
-      | then-start w ↦ (
-        rw (w.p-is, w.q-is) (rising_walk c.requires.2 c.requires.0.few_transitions (c.start-first.ensures.walk w.if-start.true) w.quotient-ratio.ensures),
-        λ z. walk_loop c.requires.2 c.requires.0.few_transitions (c.start-first.ensures.walk z),
-      )
-      | else-start w ↦ (rw (w.p-is, w.q-is) rising_start, λ z. walk_loop c.requires.2 c.requires.0.few_transitions (c.start-first.ensures.walk z))
+pub loop-walk-init : goal.loop-walk-init
+loop-walk-init c =
+    elim c.match-first.branch [
+      | in-Some w ↦
+          (let low = c.start-first.ensures w.in-Some.walk w.in-Some.is in
+          (rw w.ratio-is (rising_walk c.requires c.args.rules.now.limits.few_transitions low w.quotient-ratio.ensures), λ z. walk_loop c.requires c.args.rules.now.limits.few_transitions low))
+      | in-None w ↦ (rw w.ratio-is rising_start, λ z. absurd (false≢true (sym (c.is_some-found.ensures ∙ ap is_some w.in-None.is) ∙ z)))
     ]
 
-pub settle-ended-requires : goal.settle-ended-requires
-settle-ended-requires c =
-    rising_query c.args.delay.now c.requires.0 c.requires.1 c.loop-p.invariant.0
+pub returns-clause-reached : goal.returns-clause-reached
+returns-clause-reached c =
+    rising_end c.loop-walk.invariant.0 (c.settle.ensures.quiet c.in_default.is) (rising_query c.args.rules.now.delay.now c.args.rules.now.limits c.args.rules.now.short c.loop-walk.invariant.0)
 
-pub quotient-ratio-requires-then-met : goal.quotient-ratio-requires-then-met
-quotient-ratio-requires-then-met c =
-    walk_turns c.requires.2 c.requires.0.few_transitions (c.settle-ended.ensures.settled.walk c.if-met.true)
+pub quotient-ratio-requires-in-Some-settle : goal.quotient-ratio-requires-in-Some-settle
+quotient-ratio-requires-in-Some-settle c =
+    walk_turns c.requires c.args.rules.now.limits.few_transitions (c.settle.ensures.walk c.in-Some-settle.walk c.in-Some-settle.is).walk
 
-pub loop-p-smaller : goal.loop-p-smaller
-loop-p-smaller c =
-    let end = c.settle-ended.ensures.settled in
-    rising_less c.requires.2 c.requires.0.few_transitions (end.walk c.if-met.true) c.quotient-ratio-then-met.ensures c.loop-p.invariant.0 (end.above c.if-met.true)
+pub loop-walk-smaller : goal.loop-walk-smaller
+loop-walk-smaller c =
+    let end = (c.settle.ensures.walk c.in-Some-settle.walk c.in-Some-settle.is) in
+    rising_less c.requires c.args.rules.now.limits.few_transitions end.walk c.quotient-ratio-in-Some-settle.ensures c.loop-walk.invariant.0 end.above
 
-pub loop-p-preserved : goal.loop-p-preserved
-loop-p-preserved c =
-    let w = c.settle-ended.ensures.settled.walk c.if-met.true in
-    (rising_walk c.requires.2 c.requires.0.few_transitions w c.quotient-ratio-then-met.ensures, λ z. walk_loop c.requires.2 c.requires.0.few_transitions w)
-
-pub returns-else-met : goal.returns-else-met
-returns-else-met c =
-    record {
-      reached = rising_end c.loop-p.invariant.0 c.settle-ended.ensures.settled (rising_query c.args.delay.now c.requires.0 c.requires.1 c.loop-p.invariant.0) c.settle-ended.ensures.x_len c.if-met.false;
-      some_loop = c.loop-p.invariant.1;
-    }
+pub loop-walk-preserved : goal.loop-walk-preserved
+loop-walk-preserved c =
+    let w = (c.settle.ensures.walk c.in-Some-settle.walk c.in-Some-settle.is).walk in
+    (rising_walk c.requires c.args.rules.now.limits.few_transitions w c.quotient-ratio-in-Some-settle.ensures, λ z. walk_loop c.requires c.args.rules.now.limits.few_transitions w)

@@ -2,13 +2,13 @@
 -- Assumes nothing.
 use Rattle.std.proofs.Common.{◌≡◌, true}
 use Rattle.model.specs.Loop.{SomeLoop}
-use Rattle.columns.specs.Columns.{shape, delay_at}
+use Rattle.columns.specs.Views.{of_filled, delays_of}
 use Rattle.search.specs.Climbing.{Rising, left}
 use Rattle.search.proofs.climb.Given as goal
 
-abbrev pub invariant-loop-p : goal.invariant-loop-p
-invariant-loop-p l =
-    Rising (shape l.source l.target l.offset l.m) (delay_at l.delay) l.p l.q × (l.found ≡ true → SomeLoop (shape l.source l.target l.offset l.m))
+abbrev pub invariant-loop-walk : goal.invariant-loop-walk
+invariant-loop-walk l =
+    Rising (of_filled l.rules) (delays_of l.rules) l.ratio.p l.ratio.q × (l.found ≡ true → SomeLoop (of_filled l.rules))
 
-abbrev pub decreases-loop-p : goal.decreases-loop-p
-decreases-loop-p l = left l.p l.q
+abbrev pub decreases-loop-walk : goal.decreases-loop-walk
+decreases-loop-walk l = left l.ratio.p l.ratio.q

@@ -1,5 +1,4 @@
--- `search::gcd` meets its contract. The loop's invariant: whatever is the greatest common divisor of x and y is that of a and b. The measure is y.
--- Assumes nothing.
+-- Of `search::gcd`. Assumes nothing.
 use Rattle.std.proofs.Common.{◌≡◌, mod-lt, arith}
 use Rattle.theory.specs.Ratio.{gcd_end, gcd_step}
 use Rattle.search.proofs.gcd.Goals as goal

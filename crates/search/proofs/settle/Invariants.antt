@@ -2,12 +2,12 @@
 -- The measure is n - k.
 -- Assumes nothing.
 use Rattle.std.proofs.Common.{◌-◌}
-use Rattle.columns.specs.Columns.{shape, delay_at}
+use Rattle.columns.specs.Views.{of_filled, delays_of}
 use Rattle.search.specs.Climbing.{Settling}
 use Rattle.search.proofs.settle.Given as goal
 
-abbrev pub invariant-loop-par : goal.invariant-loop-par
-invariant-loop-par l = Settling (shape l.source l.target l.offset l.m) (delay_at l.delay) l.p l.q l.n l.x l.par l.k
+abbrev pub invariant-loop-at : goal.invariant-loop-at
+invariant-loop-at l = Settling (of_filled l.rules) (delays_of l.rules) l.at.p l.at.q l.rules.n l.x l.par l.k
 
-abbrev pub decreases-loop-par : goal.decreases-loop-par
-decreases-loop-par l = l.n - l.k
+abbrev pub decreases-loop-at : goal.decreases-loop-at
+decreases-loop-at l = l.rules.n - l.k

@@ -1,36 +1,27 @@
 -- `sevens::number_in` meets its contract.
--- Each way out is one case of the answer: a law names the case, and the part handed back is `nothing`'s or the end of the bytes.
+-- Each way out is one case of the answer, which a law names.
 -- Assumes nothing.
-use Rattle.std.proofs.Common.{refl, ap, sym, ◌∙◌, arith}
+use Rattle.std.proofs.Common.{⊎_elim, sym, ◌∙◌, ap, arith}
 use Rattle.sevens.specs.Sevens.{refused}
-use Rattle.sevens.specs.Laws.{raw_size, number_cut, number_long, number_low, number_high}
-use Rattle.sevens.specs.Steps.{read_refused, read_accepted}
+use Rattle.sevens.specs.Laws.{raw_size, number_cut, number_long, number_low, number_high, number_accepted, cut_length}
 use Rattle.sevens.proofs.number_in.Goals as goal
 
-pub returns-then-v-low : goal.returns-then-v-low
-returns-then-v-low c =
-    read_refused _ _ _ _ 3 _ _ _ _ (number_low _ _ _ _ _ _ (sym c.written-x.ensures ∙ c.in-Value.is) (omega arith)) (omega arith) c.nothing-then-v-low.ensures
+pub returns-in-Cut-clause-answer : goal.returns-in-Cut-clause-answer
+returns-in-Cut-clause-answer c =
+    rw c.at.ensures (sym (number_cut _ _ _ _ (sym c.written.ensures ∙ c.in-Cut.is) ∙ ap (refused 1) (cut_length c.args.groups _)))
 
-pub returns-then-high-v : goal.returns-then-high-v
-returns-then-high-v c =
-    read_refused _ _ _ _ 3 _ _ _ _ (number_high _ _ _ _ _ _ (sym c.written-x.ensures ∙ c.in-Value.is) (omega arith)) (omega arith) c.nothing-then-high-v.ensures
+pub returns-in-Long-clause-answer : goal.returns-in-Long-clause-answer
+returns-in-Long-clause-answer c =
+    rw c.at-in-Long.ensures (sym (number_long _ _ _ _ (sym c.written.ensures ∙ c.in-Long.is) ∙ ap (refused 2) (sym c.long_place.ensures)))
 
-pub slice_bounds-result-count : goal.slice_bounds-result-count
-slice_bounds-result-count c = omega (arith, raw_size _ _ _ _ (sym c.written-x.ensures ∙ c.in-Value.is))
+pub returns-in-Value-clause-answer : goal.returns-in-Value-clause-answer
+returns-in-Value-clause-answer c =
+    let e = sym c.written.ensures ∙ c.in-Value.is in
+    rw c.at-in-Value.ensures (sym (⊎_elim (λ l. number_low _ _ _ _ _ _ e l) (λ l. number_high _ _ _ _ _ _ e l.1) c.if-high-v.either))
 
-pub slice_bounds-result-start : goal.slice_bounds-result-start
-slice_bounds-result-start c = omega (arith, raw_size _ _ _ _ (sym c.written-x.ensures ∙ c.in-Value.is))
+pub returns-in-Value-2-clause-answer : goal.returns-in-Value-2-clause-answer
+returns-in-Value-2-clause-answer c =
+    sym (number_accepted _ _ _ _ _ _ (sym c.written.ensures ∙ c.in-Value.is) (omega arith) (omega arith))
 
-pub returns-in-Cut : goal.returns-in-Cut
-returns-in-Cut c =
-    let e = sym c.written-x.ensures ∙ c.in-Cut.is in
-    read_refused _ _ _ _ 1 _ _ _ _ (number_cut _ _ _ _ e ∙ ap (refused 1) (sym c.cut_place.ensures)) (omega arith) c.nothing.ensures
-
-pub returns-in-Long : goal.returns-in-Long
-returns-in-Long c =
-    let e = sym c.written-x.ensures ∙ c.in-Long.is in
-    read_refused _ _ _ _ 2 _ _ _ _ (number_long _ _ _ _ e ∙ ap (refused 2) (sym c.long_place.ensures)) (omega arith) c.nothing-in-Long.ensures
-
-pub returns-else-high-v : goal.returns-else-high-v
-returns-else-high-v c =
-    read_accepted _ _ _ _ _ _ c.args.bytes.ref_ptr _ (sym c.written-x.ensures ∙ c.in-Value.is) (omega arith) refl (omega arith)
+pub returns-in-Value-2-clause-inside : goal.returns-in-Value-2-clause-inside
+returns-in-Value-2-clause-inside c = omega (arith, raw_size _ _ _ _ (sym c.written.ensures ∙ c.in-Value.is))

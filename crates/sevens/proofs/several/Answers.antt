@@ -1,6 +1,5 @@
 -- `sevens::several` meets its contract.
--- Invariant: what is left of the bytes, carried after the i groups read, gives the same number; the value is below the scale, which is 128 to the power i.
--- The measure is the groups left. Assumes nothing.
+-- Assumes nothing.
 use Rattle.std.proofs.Common.{◌-◌, sym, arith}
 use Rattle.sevens.specs.Sevens.{raw_of}
 use Rattle.sevens.specs.Steps.{carried_start, carried_cut, carried_zero, carried_last, carried_again, carried_long, turn_fits, scale_again}
@@ -10,7 +9,7 @@ pub loop-i-init : goal.loop-i-init
 loop-i-init c =
     let s = c.args.bytes.now in
     let g = c.args.groups in
-    (omega arith, omega arith, omega arith, omega arith, omega arith, carried_start g c.wide-value.result s (omega arith))
+    (omega arith, omega arith, omega arith, omega arith, omega arith, carried_start g c.from-value.result s (omega arith))
 
 pub returns-then-bytes-i : goal.returns-then-bytes-i
 returns-then-bytes-i c =
@@ -24,29 +23,23 @@ returns-then-b-eq0 c =
     let at = c.loop-i in
     let s = c.args.bytes.now in
     let g = c.args.groups in
-    sym (carried_zero (raw_of g s) g at.value at.scale at.i s at.invariant.5 c.wide-b.result (omega arith))
-
-pub overflow_mul-result : goal.overflow_mul-result
-overflow_mul-result c = omega (arith, turn_fits c.args.groups c.loop-i.i c.loop-i.scale c.loop-i.value c.wide-b.result (omega arith))
+    sym (carried_zero (raw_of g s) g at.value at.scale at.i s at.invariant.5 c.from-b.result (omega arith))
 
 pub overflow_add-result : goal.overflow_add-result
-overflow_add-result c = omega (arith, turn_fits c.args.groups c.loop-i.i c.loop-i.scale c.loop-i.value c.wide-b.result (omega arith))
+overflow_add-result c = omega (arith, turn_fits c.args.groups c.loop-i.i c.loop-i.scale c.loop-i.value c.from-b.result (omega arith))
 
 pub returns-then-b-lt128 : goal.returns-then-b-lt128
 returns-then-b-lt128 c =
     let at = c.loop-i in
     let s = c.args.bytes.now in
     let g = c.args.groups in
-    sym (carried_last (raw_of g s) g at.value at.scale at.i s at.invariant.5 c.wide-b.result (omega arith))
-
-pub overflow_mul-value : goal.overflow_mul-value
-overflow_mul-value c = omega (arith, turn_fits c.args.groups c.loop-i.i c.loop-i.scale c.loop-i.value (c.wide-b.result - 128) (omega arith))
+    sym (carried_last (raw_of g s) g at.value at.scale at.i s at.invariant.5 c.from-b.result (omega arith))
 
 pub overflow_add-value : goal.overflow_add-value
-overflow_add-value c = omega (arith, turn_fits c.args.groups c.loop-i.i c.loop-i.scale c.loop-i.value (c.wide-b.result - 128) (omega arith))
+overflow_add-value c = omega (arith, turn_fits c.args.groups c.loop-i.i c.loop-i.scale c.loop-i.value (c.from-b.result - 128) (omega arith))
 
 pub overflow_mul-scale : goal.overflow_mul-scale
-overflow_mul-scale c = omega (arith, turn_fits c.args.groups c.loop-i.i c.loop-i.scale c.loop-i.value (c.wide-b.result - 128) (omega arith))
+overflow_mul-scale c = omega (arith, turn_fits c.args.groups c.loop-i.i c.loop-i.scale c.loop-i.value (c.from-b.result - 128) (omega arith))
 
 pub loop-i-preserved : goal.loop-i-preserved
 loop-i-preserved c =
@@ -57,8 +50,8 @@ loop-i-preserved c =
       omega arith,
       omega arith,
       scale_again at.i at.scale at.invariant.3,
-      (turn_fits c.args.groups c.loop-i.i c.loop-i.scale c.loop-i.value (c.wide-b.result - 128) (omega arith)).1,
-      carried_again (raw_of g s) g at.value at.scale at.i s at.invariant.5 c.wide-b.result (omega arith),
+      (turn_fits c.args.groups c.loop-i.i c.loop-i.scale c.loop-i.value (c.from-b.result - 128) (omega arith)).1,
+      carried_again (raw_of g s) g at.value at.scale at.i s at.invariant.5 c.from-b.result (omega arith),
     )
 
 pub returns : goal.returns

@@ -5,9 +5,9 @@ use Rattle.std.proofs.Common.{sym, arith}
 use Rattle.sevens.specs.Steps.{raw_none, raw_one}
 use Rattle.sevens.proofs.written.Goals as goal
 
-pub returns-then-bytes-eq0 : goal.returns-then-bytes-eq0
-returns-then-bytes-eq0 c = sym (raw_none c.args.groups c.args.bytes.now (omega arith))
+pub returns-in-empty : goal.returns-in-empty
+returns-in-empty c = sym (raw_none c.args.groups c.args.bytes.now (omega arith))
 
-pub returns-then-first-lt128 : goal.returns-then-first-lt128
-returns-then-first-lt128 c =
-    sym (raw_one c.args.groups c.wide-first.result c.args.bytes.now (omega arith))
+pub returns-in-len1-up : goal.returns-in-len1-up
+returns-in-len1-up c =
+    sym (raw_one c.args.groups c.from.result c.args.bytes.now (omega arith))

@@ -1,31 +1,35 @@
 -- `simulate` meets its contract: refused it writes nothing, and else the times of the columns are those of the table.
 -- Assumes nothing.
-use Rattle.std.proofs.Common.{refl, arith, mul_comm}
-use Rattle.columns.specs.Lay.{laid_limits, laid_ordered}
-use Rattle.simulation.specs.Blanks.{columns_live, columns_timed}
+use Rattle.std.proofs.Common.{◌≡◌, Err, refl, arith, rules}
+use Rattle.engine.specs.Lap.{live_columns}
+use Rattle.simulation.specs.Blanks.{columns_live, columns_timed, timed_columns}
 use Rattle.simulation.specs.Refusals.{simulated}
 use Rattle.simulation.proofs.simulate.Goals as goal
 
-pub returns-then-refused-gt0 : goal.returns-then-refused-gt0
-returns-then-refused-gt0 c = c.refusal-refused.ensures.refused c.if-refused-gt0.true _ refl
+pub returns-in_err-refusal : goal.returns-in_err-refusal
+returns-in_err-refusal c =
+    let x = c.in_err-refusal in
+    let e : c.from_residual.result ≡ Err x.field-0.0 = search rules in
+    rw e (x.ensures _ refl)
 
 pub lay-c-requires : goal.lay-c-requires
-lay-c-requires c = (c.refusal-refused.ensures.passed (omega arith)).0.within
+lay-c-requires c = c.in_ok-refusal.ensures.within
 
-pub written-requires : goal.written-requires
-written-requires c =
-    let laid = c.lay-c.ensures in
-    let passed = (c.refusal-refused.ensures.passed (omega arith)).0 in
-    let a = c.args in
-    record {
-      limits = laid_limits _ passed.within _ _ _ _ _ _ laid;
-      short = (laid_ordered _ passed.within _ _ _ _ _ _ laid).short_least;
-      live = columns_live _ _ _ _ _ _ _ laid passed.live;
-      count_bound = (passed.span.1, omega (arith, passed.room, mul_comm a.t.n a.occurrences));
-    }
+pub written-requires-clause-live : goal.written-requires-clause-live
+written-requires-clause-live c =
+    let z = c.lay-c.ensures.sized in
+    let low = c.low.ensures in
+    live_columns c.lay-c.result c.low.result low.columns low.sized (rw z.0 (columns_live _ _ _ _ _ _ _ c.lay-c.ensures.laid c.in_ok-refusal.ensures.live))
+
+pub written-requires-clause-count_bound : goal.written-requires-clause-count_bound
+written-requires-clause-count_bound c =
+    let p = c.in_ok-refusal.ensures in
+    let n : c.low.result.n ≡ c.args.t.n = omega (arith, c.low.ensures.sized.1, c.lay-c.ensures.sized.1) in
+    rw n (p.span.1, omega (arith, p.room))
 
 pub returns : goal.returns
 returns c =
-    let laid = c.lay-c.ensures in
-    let judged = c.refusal-refused.ensures.passed (omega arith) in
-    simulated _ _ _ _ _ judged.0 (omega arith) judged.1 (columns_timed _ _ _ _ _ _ _ laid _ _ _ _ c.written.ensures)
+    let z = c.lay-c.ensures.sized in
+    let low = c.low.ensures in
+    let h = timed_columns c.lay-c.result c.low.result low.columns low.delay low.sized _ _ _ c.written.ensures in
+    simulated _ _ _ _ _ c.in_ok-refusal.ensures refl refl (columns_timed _ _ _ _ _ _ _ c.lay-c.ensures.laid _ _ _ _ (rw (z.0, z.1) at h))

@@ -4,4 +4,6 @@ use Rattle.words.specs.Held.{holds_put}
 use Rattle.text.proofs.refused.Goals as goal
 
 pub returns : goal.returns
-returns c = holds_put _ _ _ c.refused_line-len.ensures.0 (omega (arith, c.refused_line-len.ensures.1))
+returns c =
+    let put = c.refused_line-len.ensures in
+    rw c.number.ensures at (holds_put _ _ _ put.0 (omega (arith, put.1)))

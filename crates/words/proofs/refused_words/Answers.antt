@@ -10,6 +10,6 @@ returns c =
     let f = c.decimal-b.ensures in
     let at = c.word-c.ensures in
     let p = c.decimal.ensures in (
-      puts_then refused (puts_then (puts_same (ap decimal c.wide-f.ensures) f.0) (puts_then at (puts_same (ap decimal c.wide_usize-p.ensures) p.0))),
+      puts_then refused (puts_then (puts_same (ap decimal c.from.ensures) f.0) (puts_then at p.0)),
       omega (arith, refused.place, f.1, at.place, p.1),
     )

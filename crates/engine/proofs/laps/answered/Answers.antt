@@ -5,4 +5,6 @@ use Rattle.engine.proofs.laps.answered.Goals as goal
 
 pub returns : goal.returns
 returns c =
-    (c.meet-exact.ensures, lap_made c.args.n c.args.low.p c.args.low.q c.args.low.len c.args.low.rules c.args.high.p c.args.high.q c.args.high.len c.args.high.rules c.args.high.x _ _ _ c.end-least.ensures c.end-greatest.ensures c.requires.0 c.requires.4 c.requires.3)
+    let low = c.args.low.now in
+    let high = c.args.high.now in
+    (c.meet.ensures, lap_made c.args.n low.p low.q low.len low.rules high.p high.q high.len high.rules high.x _ _ _ c.end.ensures c.end-2.ensures c.requires.0 c.requires.4 c.requires.3)

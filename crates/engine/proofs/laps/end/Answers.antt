@@ -5,4 +5,4 @@ use Rattle.engine.specs.Lap.{end_made}
 use Rattle.engine.proofs.laps.end.Goals as goal
 
 pub returns : goal.returns
-returns c = end_made _ _ _ c.args.rules c.numbers-all.result c.requires (omega arith) c.numbers-all.ensures
+returns c = end_made _ _ _ c.args.side.now.rules c.numbers.result c.requires (omega arith) c.numbers.ensures

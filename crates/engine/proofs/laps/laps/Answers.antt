@@ -1,50 +1,43 @@
 -- `laps::laps` meets its contract: a loop of offset 0, no loop, or two sides, of which the second is the first where there is no blank.
 -- Assumes nothing.
-use Rattle.std.proofs.Common.{arith}
-use Rattle.engine.specs.Lap.{ends_knotted, ends_flat, ends_answered, ends_live, sided_same}
+use Rattle.std.proofs.Common.{Some, None, ap, arith}
+use Rattle.refusals.specs.declared.Refusal.{Refusal}
+use Rattle.refusals.specs.Number.{number_of}
+use Rattle.engine.specs.Lap.{refused_lap, zero_columns, sided_columns, live_columns, ends_knotted, ends_answered, ends_live, sided_same}
+use Rattle.engine.proofs.laps.laps.Goals.{In_default, Then-not-c, After-answered-2}
 use Rattle.engine.proofs.laps.laps.Goals as goal
 
-pub zero_loop-zero-requires : goal.zero_loop-zero-requires
-zero_loop-zero-requires c = c.requires.0
+pub returns-in-Some : goal.returns-in-Some
+returns-in-Some c =
+    let z = c.in-Some in
+    ends_knotted (zero_columns c.args.c.now c.rules.result c.rules.ensures.columns c.rules.ensures.sized (Some z.zero) z.ensures) z.zero.some
+    (ap (λ (x : Refusal). refused_lap (number_of x.why) x.place) c.at.ensures)
 
-pub refused-requires : goal.refused-requires
-refused-requires c = tt
+pub measured-requires : goal.measured-requires
+measured-requires c =
+    let live = ends_live (zero_columns c.args.c.now c.rules.result c.rules.ensures.columns c.rules.ensures.sized None c.in_default.ensures) (omega arith) in
+    live_columns c.args.c.now c.low.result c.low.ensures.columns c.low.ensures.sized live
 
-pub returns-then-zero-gt0 : goal.returns-then-zero-gt0
-returns-then-zero-gt0 c = ends_knotted c.zero_loop-zero.ensures c.if-zero-gt0.true c.refused.ensures
+pub measured-requires-2 : goal.measured-requires-2
+measured-requires-2 c =
+    let live = ends_live (zero_columns c.args.c.now c.rules.result c.rules.ensures.columns c.rules.ensures.sized None c.in_default.ensures) (omega arith) in
+    live_columns c.args.c.now c.high.result c.high.ensures.columns c.high.ensures.sized live
 
-pub measured-low-requires : goal.measured-low-requires
-measured-low-requires c = (c.requires.0, c.requires.1.short_least, ends_live c.zero_loop-zero.ensures c.if-zero-gt0.false)
-
-pub refused-requires-then-low-eq0 : goal.refused-requires-then-low-eq0
-refused-requires-then-low-eq0 c = tt
-
-pub returns-then-low-eq0 : goal.returns-then-low-eq0
-returns-then-low-eq0 c = ends_flat (ends_live c.zero_loop-zero.ensures c.if-zero-gt0.false) c.measured-low.ensures c.if-low-eq0.true c.refused-then-low-eq0.ensures
-
-pub measured-high-requires : goal.measured-high-requires
-measured-high-requires c = (c.requires.0, c.requires.1.short_greatest, ends_live c.zero_loop-zero.ensures c.if-zero-gt0.false)
-
-pub answered-requires : goal.answered-requires
-answered-requires c =
-    let few = c.requires.0.few_transitions in
-    let low = c.measured-low.ensures in
-    let high = c.measured-high.ensures in
-    (few, omega (arith, low.short), omega (arith, high.short), high.rest, high.size)
-
-pub returns-then-blank : goal.returns-then-blank
-returns-then-blank c =
-    let live = ends_live c.zero_loop-zero.ensures c.if-zero-gt0.false in
-    ends_answered c.requires.1.in_order live c.measured-low.ensures c.measured-high.ensures c.if-low-eq0.false c.answered.ensures.0 c.answered.ensures.1
-
-pub answered-requires-2 : goal.answered-requires-2
-answered-requires-2 c =
-    let few = c.requires.0.few_transitions in
-    let low = c.measured-low.ensures in
-    (few, omega (arith, low.short), omega (arith, low.short), low.rest, low.size)
+pub returns-then-not-c : goal.returns-then-not-c
+returns-then-not-c c =
+    let C = c.args.c.now in
+    let live = ends_live (zero_columns C c.rules.result c.rules.ensures.columns c.rules.ensures.sized None c.in_default.ensures) (omega arith) in
+    let found = c.in-Some-measured.ensures.found in
+    let some = found.0 in
+    let low = sided_columns C c.low.result c.low.ensures.columns C.least c.low.ensures.delay c.low.ensures.sized _ _ _ _ _ found.1 in
+    ends_answered C.ordered.in_order live low (sided_same _ _ _ (C.ordered.no_blank c.if-not-c.true) _ _ _ _ _ _ low) (λ z. omega arith) c.answered.ensures.0 c.answered.ensures.1
 
 pub returns : goal.returns
 returns c =
-    let live = ends_live c.zero_loop-zero.ensures c.if-zero-gt0.false in
-    let low = c.measured-low.ensures in
-    ends_answered c.requires.1.in_order live low (sided_same _ _ _ (c.requires.1.no_blank c.if-blank.false) _ _ _ _ _ _ low) c.if-low-eq0.false c.answered-2.ensures.0 c.answered-2.ensures.1
+    let C = c.args.c.now in
+    let live = ends_live (zero_columns C c.rules.result c.rules.ensures.columns c.rules.ensures.sized None c.in_default.ensures) (omega arith) in
+    let found = c.in-Some-measured.ensures.found in
+    let some = found.0 in
+    let low = sided_columns C c.low.result c.low.ensures.columns C.least c.low.ensures.delay c.low.ensures.sized _ _ _ _ _ found.1 in
+    let high = sided_columns C c.high.result c.high.ensures.columns C.greatest c.high.ensures.delay c.high.ensures.sized _ _ _ _ _ c.in-Some-measured-2.ensures.found.1 in
+    ends_answered C.ordered.in_order live low high (λ z. omega arith) c.answered-2.ensures.0 c.answered-2.ensures.1

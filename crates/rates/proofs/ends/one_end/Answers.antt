@@ -1,22 +1,16 @@
 -- `ends::one_end` meets its contract: the climb found a closed walk, so there is a loop; or the first loop of tight rules tells whether there is one.
 -- Assumes nothing.
-use Rattle.std.proofs.Common.{arith}
+use Rattle.std.proofs.Common.{refl, arith}
 use Rattle.rates.specs.Rate.{paced, paced_tight, paced_none}
 use Rattle.rates.proofs.ends.one_end.Goals as goal
 
-pub climb-top-requires : goal.climb-top-requires
-climb-top-requires c = c.requires
+pub returns-else-not-found : goal.returns-else-not-found
+returns-else-not-found c = paced _ _ _ _ _ c.requires c.climb-found.ensures.reached (c.climb-found.ensures.some_loop c.if-not-found.false)
 
-pub returns-then-top : goal.returns-then-top
-returns-then-top c = paced _ _ _ _ _ c.requires.2 c.climb-top.ensures.reached (c.climb-top.ensures.some_loop c.if-top.true)
+pub returns-in_err-tight_loop : goal.returns-in_err-tight_loop
+returns-in_err-tight_loop c = rw c.from_residual.ensures (paced_none _ _ _ _ _ c.requires c.climb-found.ensures.reached _ _ _ _ c.in_err-tight_loop.ensures refl)
 
-pub tight_loop-tight-requires : goal.tight_loop-tight-requires
-tight_loop-tight-requires c =
-    let top = c.climb-top.ensures.reached in
-    record { limits = c.requires.0; short = c.requires.1; p_bound = (top.p_low, top.q_low, λ v. omega (arith, top.low v)) }
-
-pub returns-then-tight-eq0 : goal.returns-then-tight-eq0
-returns-then-tight-eq0 c = paced_none _ _ _ _ _ c.requires.2 c.climb-top.ensures.reached _ _ _ _ c.tight_loop-tight.ensures c.if-tight-eq0.true
-
-pub returns : goal.returns
-returns c = paced_tight _ _ _ _ _ c.requires.2 c.climb-top.ensures.reached _ _ _ _ c.tight_loop-tight.ensures c.if-tight-eq0.false
+pub returns-in_ok-tight_loop : goal.returns-in_ok-tight_loop
+returns-in_ok-tight_loop c =
+    let some = c.in_ok-tight_loop.field-0.some in
+    paced_tight _ _ _ _ _ c.requires c.climb-found.ensures.reached _ _ _ _ c.in_ok-tight_loop.ensures (λ e. omega arith)

@@ -1,14 +1,10 @@
 -- `search::above::bid` meets its contract.
 -- Assumes nothing.
-use Rattle.std.proofs.Common.{arith}
+use Rattle.std.proofs.Math.Nat.{max-le}
 use Rattle.search.specs.Above.{bid_made}
 use Rattle.search.proofs.above.bid.Goals as goal
 
-pub overflow_add-asked : goal.overflow_add-asked
-overflow_add-asked c = let low = c.lifted.ensures.1 8000000000 (omega arith) c.requires.value_low in omega arith
-
-pub overflow_add-asked-2 : goal.overflow_add-asked-2
-overflow_add-asked-2 c = let low = c.lifted.ensures.1 8000000000 (omega arith) c.requires.value_low in omega arith
-
 pub returns : goal.returns
-returns c = bid_made _ _ _ _ _ c.lifted.ensures.1 c.requires.delay_low c.larger.ensures c.parent.ensures
+returns c =
+    rw (← c.from-from.ensures, ← c.from-to.ensures)
+    (bid_made c.from-2.result c.from.result c.max.result _ _ (λ b l v. rw c.max.ensures (max-le v l)) (rw c.from.ensures c.requires.delay_low) c.larger.ensures c.parent.ensures)

@@ -1,12 +1,8 @@
--- `above::start` meets its contract. The loop's invariant: k rules have bid (`Bidding`). The measure is what is left of them.
+-- `above::start` meets its contract. The loop's invariant: as many rules as were come to have bid (`Bidding`).
 -- Assumes nothing.
-use Rattle.std.proofs.Common.{◌-◌, ◌≤◌}
-use Rattle.columns.specs.Columns.{shape}
+use Rattle.columns.specs.Views.{of_filled}
 use Rattle.search.specs.Above.{Bidding}
 use Rattle.search.proofs.above.start.Given as goal
 
-abbrev pub invariant-loop-k : goal.invariant-loop-k
-invariant-loop-k l = (l.k ≤ l.m) × Bidding (shape l.source l.target l.offset l.m) l.most l.par l.k
-
-abbrev pub decreases-loop-k : goal.decreases-loop-k
-decreases-loop-k l = l.m - l.k
+abbrev pub invariant-loop-rule : goal.invariant-loop-rule
+invariant-loop-rule l = Bidding (of_filled l.rules) l.most l.par l.rule-index

@@ -1,10 +1,7 @@
--- `order::append` meets its contract. The loop's invariant: what is left of the way, and what is listed, have room. The measure is what is left.
+-- `order::append` meets its contract. The loop's invariant: what is listed has room.
 -- Assumes nothing.
 use Rattle.std.proofs.Common.{◌≤◌}
 use Rattle.search.proofs.order.append.Given as goal
 
-abbrev pub invariant-loop-left : goal.invariant-loop-left
-invariant-loop-left l = (l.left ≤ 256) × (l.end ≤ 2048)
-
-abbrev pub decreases-loop-left : goal.decreases-loop-left
-decreases-loop-left l = l.left
+abbrev pub invariant-loop-rule : goal.invariant-loop-rule
+invariant-loop-rule l = l.end ≤ 2048

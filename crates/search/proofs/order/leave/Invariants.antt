@@ -6,7 +6,7 @@ use Rattle.search.specs.Order.{Queued}
 use Rattle.search.proofs.order.leave.Given as goal
 
 abbrev pub invariant-loop-len : goal.invariant-loop-len
-invariant-loop-len l = (l.at ≤ l.m) × Queued l.list l.end
+invariant-loop-len l = (l.at ≤ l.rules.m) × Queued l.list l.end
 
 abbrev pub decreases-loop-len : goal.decreases-loop-len
-decreases-loop-len l = l.m - l.len
+decreases-loop-len l = l.rules.m - l.len

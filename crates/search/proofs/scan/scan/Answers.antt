@@ -1,32 +1,29 @@
--- `search::scan::scan` meets its contract. The loop's invariant: what the walks from the transitions below `from` leave (`Looked`).
--- The measure is the count of transitions left. Assumes nothing.
-use Rattle.std.proofs.Common.{refl, arith}
-use Rattle.columns.specs.Columns.{shape, delay_at}
-use Rattle.search.specs.Scan.{looked_start, looked_next, looked_on, looked_all, sums_low}
+-- Of `search::scan::scan`. Assumes nothing.
+use Rattle.std.proofs.Common.{sym, ◌∙◌, arith}
+use Rattle.search.specs.Scan.{kept_left, kept_right, kept_one, looked_start, looked_next, looked_on, looked_all, sums_low}
+use Rattle.search.proofs.scan.scan.Goals.{in-Some+in-Some-best, in-Some+in-None, in_default}
 use Rattle.search.proofs.scan.scan.Goals as goal
 
 pub loop-from-init : goal.loop-from-init
-loop-from-init c =
-    let g = c.args in
-    (refl, looked_start (shape g.source.now g.target.now g.offset.now g.m) (delay_at g.delay.now) g.n g.par.now)
+loop-from-init c = looked_start _ _ _ _
 
 pub walk_back-met-requires : goal.walk_back-met-requires
 walk_back-met-requires c =
-    let g = c.args in
-    let fresh = looked_next (shape g.source.now g.target.now g.offset.now g.m) (delay_at g.delay.now) g.n g.par.now c.loop-from.from c.loop-from.number c.loop-from.stamp c.loop-from.delays c.loop-from.offsets c.loop-from.best c.loop-from.invariant.1 (omega arith) c.loop-from.invariant.0 c.requires.0.few_transitions in
-    record { limits = c.requires; fresh = fresh }
+    record { valid = c.requires; fresh = looked_next _ _ _ _ _ _ _ _ _ c.loop-from.invariant (omega arith) c.args.rules.now.limits.few_transitions }
 
-pub better-best-requires : goal.better-best-requires
-better-best-requires c =
-    let g = c.args in
-    record { low = sums_low (shape g.source.now g.target.now g.offset.now g.m) (delay_at g.delay.now) g.n g.par.now c.loop-from.best c.loop-from.invariant.1.sums c.requires.0.few_transitions; low_2 = sums_low (shape g.source.now g.target.now g.offset.now g.m) (delay_at g.delay.now) g.n g.par.now c.walk_back-met.result c.walk_back-met.ensures.sums c.requires.0.few_transitions }
+pub better-requires-clause-low : goal.better-requires-clause-low
+better-requires-clause-low c = sums_low _ _ _ _ _ _ c.loop-from.invariant.sums c.in-Some-best.is c.args.rules.now.limits.few_transitions
+
+pub better-requires-clause-low_2 : goal.better-requires-clause-low_2
+better-requires-clause-low_2 c = sums_low _ _ _ _ _ _ c.walk_back-met.ensures.sums c.in-Some.is c.args.rules.now.limits.few_transitions
 
 pub loop-from-preserved : goal.loop-from-preserved
 loop-from-preserved c =
-    let g = c.args in
-    (omega arith, looked_on (shape g.source.now g.target.now g.offset.now g.m) (delay_at g.delay.now) g.n g.par.now c.loop-from.from c.loop-from.number c.loop-from.stamp c.loop-from.delays c.loop-from.offsets c.loop-from.best c.loop-from.invariant.1 (omega arith) c.loop-from.invariant.0 _ _ _ c.walk_back-met.result c.better-best.result c.walk_back-met.ensures c.better-best.ensures)
+    looked_on _ _ _ _ _ _ _ _ _ c.loop-from.invariant (omega arith) _ _ _ _ _ c.walk_back-met.ensures (elim c.match-met.branch [
+      | in-Some+in-Some-best w ↦ kept_one w.in-Some-best.is w.in-Some.is w.best-is w.better.ensures
+      | in-Some+in-None w ↦ kept_right w.in-Some.is (w.best-is ∙ sym w.in-Some.is)
+      | in_default w ↦ kept_left w.in_default.is w.best-is
+    ])
 
 pub returns : goal.returns
-returns c =
-    let g = c.args in
-    looked_all (shape g.source.now g.target.now g.offset.now g.m) (delay_at g.delay.now) g.n g.par.now c.loop-from.from c.loop-from.stamp c.loop-from.delays c.loop-from.offsets c.loop-from.best c.loop-from.invariant.1 (omega arith)
+returns c = looked_all _ _ _ _ _ _ _ _ _ c.loop-from.invariant (omega arith)

@@ -1,36 +1,19 @@
 -- `times::written` meets its contract: groups, order and rows in turn.
 -- Assumes nothing.
-use Rattle.std.proofs.Common.{refl}
-use Rattle.simulation.specs.Whole.{groups_bounded, groups_ranked, groups_plan, rows_timed, zeros_low}
+use Rattle.simulation.specs.Whole.{groups_bounded, groups_ranked, groups_plan, rows_timed}
 use Rattle.simulation.proofs.times.written.Goals as goal
 
-pub group-requires : goal.group-requires
-group-requires c =
-    let limits = c.requires.limits in
-    (limits.few_rules, limits.few_transitions, refl, zeros_low 2048, refl)
+pub order-order-requires-clause-bounded : goal.order-order-requires-clause-bounded
+order-order-requires-clause-bounded c = let (_, g, r) = c.of-groups.ensures in groups_bounded _ _ _ _ _ _ c.args.rules.now.limits _ _ g r
 
-pub rearrange-requires : goal.rearrange-requires
-rearrange-requires c =
-    let l = c.requires.limits in
-    (l.few_rules, c.group.ensures.numbers, refl, refl, refl)
+pub order-order-requires-clause-ranked : goal.order-order-requires-clause-ranked
+order-order-requires-clause-ranked c = let (_, g, r) = c.of-groups.ensures in groups_ranked _ _ _ _ _ _ c.args.rules.now.limits _ _ g r c.requires.live
 
-pub order-order-requires : goal.order-order-requires
-order-order-requires c =
-    let pre = c.requires in
-    let g = c.group.ensures in
-    let new = c.rearrange.ensures in
-    record { bounded = groups_bounded _ _ _ _ _ _ pre.limits _ _ _ _ _ g new; ranked = groups_ranked _ _ _ _ _ _ pre.limits _ _ _ _ _ g new pre.live }
-
-pub rows-requires : goal.rows-requires
-rows-requires c =
-    let pre = c.requires in
-    let g = c.group.ensures in
-    let new = c.rearrange.ensures in
-    record { plan = groups_plan _ _ _ _ _ _ pre.limits _ _ _ _ _ g new pre.short _ c.order-order.ensures; count_bound = pre.count_bound }
+pub rows-requires-clause-plan : goal.rows-requires-clause-plan
+rows-requires-clause-plan c =
+    let (_, g, r) = c.of-groups.ensures in groups_plan _ _ _ _ _ _ c.args.rules.now.limits _ _ g r c.args.rules.now.short _ c.order-order.ensures
 
 pub returns : goal.returns
 returns c =
-    let pre = c.requires in
-    let g = c.group.ensures in
-    let new = c.rearrange.ensures in
-    rows_timed _ _ _ _ _ _ pre.limits _ _ _ _ _ g new pre.short _ _ _ _ c.rows.ensures
+    let (_, g, r) = c.of-groups.ensures in
+    rows_timed _ _ _ _ _ _ c.args.rules.now.limits _ _ g r c.args.rules.now.short _ _ _ _ c.rows.ensures

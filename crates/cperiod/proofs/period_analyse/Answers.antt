@@ -1,6 +1,0 @@
--- `period_analyse` meets its contract: the analysis of what its columns hand in. No loop. Assumes nothing.
-use Rattle.cperiod.specs.Steps.{analysis_same}
-use Rattle.cperiod.proofs.period_analyse.Goals as goal
-
-pub returns : goal.returns
-returns c = analysis_same _ _ _ _ _ _ _ _ _ c.from_columns-handed.ensures c.analysed.ensures
