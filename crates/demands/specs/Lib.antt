@@ -11,3 +11,4 @@ pub mod Demand2
 pub mod Demand3
 pub mod Unused
 pub mod Witness
+pub mod Once

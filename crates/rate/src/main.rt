@@ -20,11 +20,12 @@ fn show_one(rt: &impl Print, file: &[u8], digits: &[u8]) -> io::Result<()> {
 
 // A file that reading refuses has no transition; its refusal is then that of any rate.
 fn show_all(rt: &impl Print, file: &[u8]) -> io::Result<()> {
-    let Ok(all) = rates_text::list_rates(file) else {
-        return show(rt, rates_text::rate(file, 0));
-    };
-    for v in 0..all.n {
-        show(rt, rates_text::group(&all, v))?;
+    let all = rates_text::list_rates(file);
+    if all.n == 0 {
+        show(rt, rates_text::rate(file, 0))?;
+    }
+    for v in 0..256 {
+        show(rt, rates_text::group(all, v))?;
     }
     Ok(())
 }

@@ -6,14 +6,14 @@
 --   FileRate s v x       x is the rate of transition v of the file s, or the refusal in reading it
 --   RateReport s v r     THE PROMISE of `rate`: r holds the line
 --   ListingOf s r        THE PROMISE of `list_rates`: the rates of all transitions of the file s; none where reading refuses it
---   told_rates xs, told_group a, told_listing r    what is told by what the code hands back: of rates, of a listing, of a listing or a refusal
+--   flat x, told_rates xs, told_group a    what is told by what the code holds: of a rate, of rates, of a listing
 --   alike_rates x y       two rates are the same, or both are refused alike
 --   group_text a v        the line of the transitions that share the rate of v, where v is the lowest of them; else nothing
 --   GroupOf a v r        THE PROMISE of `group`: r holds it
 --   told s               the number that the digits s say, or one of 1,000 or more where they say one
 --
 -- Theorems: file_rate_unique, rate_report_unique, listing_unique, group_unique (one outcome each), rate_first, listing_first (the first bytes decide).
-use Rattle.std.specs.Prelude.{◌≡◌, refl, Bool, true, false, List, [], ◌∷◌, ◌++◌, ℕ, zero, suc, ◌+◌, ◌-◌, ◌*◌, ◌≤◌, ◌<◌, ltb, eqb, length, get_or, set, take, replicate, fold, map, Result, Ok, Err, ◌||◌}
+use Rattle.std.specs.Prelude.{◌≡◌, refl, Bool, true, false, List, [], ◌∷◌, ◌++◌, ℕ, zero, suc, ◌+◌, ◌-◌, ◌*◌, ◌≤◌, ◌<◌, ltb, eqb, length, get_or, set, take, replicate, fold, map, ◌||◌}
 use Rattle.std.proofs.Common.{sym, ap, ◌∙◌, subst, arith, add-one, get_or-set_same, get_or-set_other, lt-ltb, le-ltb}
 use Rattle.std.proofs.Math.Logic.{by_cases}
 use Rattle.std.proofs.Math.Decide.{dec_lt, ℕ_discrete}
@@ -28,14 +28,13 @@ use Rattle.rulefile.specs.declared.FileRead.{FileRead}
 use Rattle.rulefile.specs.File.{read_of}
 use Rattle.rulefile.specs.Length.{longest}
 use Rattle.rulefile.specs.First.{first_bytes}
-use Rattle.refusals.specs.declared.Refusal.{Refusal}
-use Rattle.engine.specs.declared.Range.{Range}
-use Rattle.rates.specs.Rate.{Rated, refused_rate, told_rate, RateOf, rate_unique}
+use Rattle.rates.specs.Rate.{Rated, refused_rate, RateOf, rate_unique}
 use Rattle.words.specs.declared.Text.{Text}
 use Rattle.words.specs.Decimal.{ascii, pick, numbers, numbers_append}
 use Rattle.words.specs.Puts.{Puts, puts_then, puts_same}
 use Rattle.words.specs.Lines.{newline, ratio, refused_words_of}
 use Rattle.words.specs.Held.{Holds, held_unique}
+use Rattle.rates_text.specs.declared.Rated.{Rated as Held}
 use Rattle.rates_text.specs.declared.Listing.{Listing as Given}
 
 -- ------------------------------------------------------------------------------------------------------------------------------- one transition
@@ -77,16 +76,15 @@ pub record Listing : Type 0 where
   pub n : ℕ
   pub rates : List Rated
 
--- what is told by what the code hands back
-abbrev pub told_rates : List (Result Range Refusal) → List Rated
-told_rates xs = map told_rate xs
+-- what is told by what the code holds: the same numbers
+abbrev pub flat : Held → Rated
+flat x = record { refusal = x.refusal; place = x.place; exact = x.exact; low = x.low; high = x.high }
+
+abbrev pub told_rates : List Held → List Rated
+told_rates xs = map flat xs
 
 abbrev pub told_group : Given → Listing
 told_group a = record { n = a.n; rates = told_rates a.rates }
-
-abbrev pub told_listing : Result Given Refusal → Listing
-told_listing (Ok a) = told_group a
-told_listing (Err e) = record { n = 0; rates = replicate 256 no_rate }
 
 -- 256 rates, of which the first n are the table's; past these the rate is refused 10
 pub record ReadListing (f : FileRead) (r : Listing) : Type 0 where
@@ -188,11 +186,11 @@ listing_first s k b h r a = subst (λ (f : FileRead). ReadListing f r) (first_by
 -- ------------------------------------------------------------------------------------------------------------------------- steps of the proofs
 
 -- a rate that no call has given
-abbrev unset : Result Range Refusal
-unset = Ok (record { exact = false; low = record { p = 0; q = 0 }; high = record { p = 0; q = 0 } })
+abbrev unset : Held
+unset = record { refusal = 0; place = 0; exact = false; low = record { p = 0; q = 0 }; high = record { p = 0; q = 0 } }
 
-pub rate_told : (xs : List (Result Range Refusal)) (v : ℕ) → get_or (told_rates xs) v no_rate ≡ told_rate (get_or xs v unset)
-rate_told xs v = get_or-map told_rate xs v unset
+pub rate_told : (xs : List Held) (v : ℕ) → get_or (told_rates xs) v no_rate ≡ flat (get_or xs v unset)
+rate_told xs v = get_or-map flat xs v unset
 
 either_side : (a b : Bool) → (a || b) ≡ pick b true a
 either_side true true = refl
@@ -201,12 +199,12 @@ either_side false true = refl
 either_side false false = refl
 
 -- as one of the first k, for a chain over them
-pub earlier_any : (xs : List (Result Range Refusal)) (v k : ℕ) → k ≤ length xs
-    → list_any (λ x. alike_rates (told_rate x) (told_rate (get_or xs v unset))) (take k xs) ≡ earlier_than (told_rates xs) v k
+pub earlier_any : (xs : List Held) (v k : ℕ) → k ≤ length xs
+    → list_any (λ x. alike_rates (flat x) (flat (get_or xs v unset))) (take k xs) ≡ earlier_than (told_rates xs) v k
 unfolding earlier_than
 earlier_any xs v zero b = refl
 earlier_any xs v (suc k) b =
-    let p = λ (x : Result Range Refusal). alike_rates (told_rate x) (told_rate (get_or xs v unset)) in
+    let p = λ (x : Held). alike_rates (flat x) (flat (get_or xs v unset)) in
     let here = p (get_or xs k unset) in
     let there : here ≡ alike_rates (get_or (told_rates xs) k no_rate) (get_or (told_rates xs) v no_rate) = rw (rate_told xs k, rate_told xs v) refl in
     (rw add-one at (list_any_more p xs k unset (omega arith))) ∙ either_side (list_any p (take k xs)) here ∙ ap (λ e. pick here true e) (earlier_any xs v k (omega arith))
@@ -223,8 +221,8 @@ members_next xs n v k other mine t m a b =
     rw add-one (puts_same (sym (numbers_append (members_to xs n v k) (member_if k n (get_or xs k no_rate) (get_or xs v no_rate)))) (puts_then a (rw (t, m) at b)))
 
 -- one rate more
-pub rates_next : (t : Table) (xs : List (Result Range Refusal)) (v : ℕ) (x : Result Range Refusal) → length xs ≡ 256 → v < 256
-    → ((w : ℕ) → w < v → RateOf t w (get_or (told_rates xs) w no_rate)) → RateOf t v (told_rate x) → (w : ℕ) → w < v + 1 → RateOf t w (get_or (told_rates (set xs v x)) w no_rate)
+pub rates_next : (t : Table) (xs : List Held) (v : ℕ) (x : Held) → length xs ≡ 256 → v < 256
+    → ((w : ℕ) → w < v → RateOf t w (get_or (told_rates xs) w no_rate)) → RateOf t v (flat x) → (w : ℕ) → w < v + 1 → RateOf t w (get_or (told_rates (set xs v x)) w no_rate)
 rates_next t xs v x size b h r w l =
     by_cases (ℕ_discrete w v)
     (λ e. rw (e, rate_told (set xs v x) v, get_or-set_same xs v x unset (omega arith)) r)

@@ -1,12 +1,11 @@
 // What a line is made of: the words for a rate, and the transitions that share one.
 ghost use Rattle.std.specs.Prelude.{◌≡◌, ◌+◌, ◌*◌, ◌≤◌, ◌<◌};
 ghost use Rattle.std.specs.List.{list_any};
-ghost use Rattle.rates.specs.Rate.{told_rate};
 ghost use Rattle.words.specs.Decimal.{numbers};
 ghost use Rattle.words.specs.Puts.{Puts};
-ghost use Rattle.rates_text.specs.Rates.{exact_words_of, range_words_of, rate_words_of, alike_rates, earlier_than, member_if, members_to, told_rates};
+ghost use Rattle.rates_text.specs.Rates.{flat, exact_words_of, range_words_of, rate_words_of, alike_rates, earlier_than, member_if, members_to, told_rates};
 
-use crate::Rate;
+use crate::Rated;
 use rates::Ratio;
 
 // (`words::exact_line` and `range_line` have other words and end a line. Three calls each: one function that takes the words, with a bound of its own, is no shorter.)
@@ -27,35 +26,33 @@ fn range_words(low: Ratio, high: Ratio, out: &mut [u8], at: usize) -> usize
     words::ratio(high.p, high.q, out, c)
 }
 
-pub fn rate_words(rate: &Rate, out: &mut [u8], at: usize) -> usize
-    ensures { Puts (rate_words_of (told_rate rate.now)) out.old at out.new result × (result ≤ at + 96) }
+pub fn rate_words(rate: &Rated, out: &mut [u8], at: usize) -> usize
+    ensures { Puts (rate_words_of (flat rate.now)) out.old at out.new result × (result ≤ at + 96) }
 {
-    match rate {
-        Ok(x) if x.exact => exact_words(x.high, out, at),
-        Ok(x) => range_words(x.low, x.high, out, at),
-        Err(e) => words::refused_words(e.why.number(), e.place, out, at),
+    if 0 < rate.refusal {
+        words::refused_words(rate.refusal, rate.place, out, at)
+    } else if rate.exact {
+        exact_words(rate.high, out, at)
+    } else {
+        range_words(rate.low, rate.high, out, at)
     }
 }
 
 // Whether two transitions share a rate: the same ends, or the same refusal.
-fn alike(x: &Rate, y: &Rate) -> bool
-    ensures { result ≡ alike_rates (told_rate x.now) (told_rate y.now) }
+fn alike(x: &Rated, y: &Rated) -> bool
+    ensures { result ≡ alike_rates (flat x.now) (flat y.now) }
 {
-    match (x, y) {
-        (Ok(x), Ok(y)) => x.low == y.low && x.high == y.high,
-        (Err(x), Err(y)) => x.why == y.why,
-        _ => false,
-    }
+    x.refusal == y.refusal && x.low == y.low && x.high == y.high
 }
 
-fn any_alike(rates: &[Rate], mine: &Rate) -> bool
-    ensures { result ≡ list_any (λ x. alike_rates (told_rate x) (told_rate mine.now)) rates.now }
+fn any_alike(rates: &[Rated], mine: &Rated) -> bool
+    ensures { result ≡ list_any (λ x. alike_rates (flat x) (flat mine.now)) rates.now }
 {
     rates.iter().any(|x| alike(x, mine))
 }
 
 // Whether a lower transition shares the rate of v.
-pub fn earlier(rates: &[Rate; 256], v: usize) -> bool
+pub fn earlier(rates: &[Rated; 256], v: usize) -> bool
     requires { v < 256 }
     ensures { result ≡ earlier_than (told_rates rates.now) v v }
 {
@@ -63,8 +60,8 @@ pub fn earlier(rates: &[Rate; 256], v: usize) -> bool
 }
 
 // Transition k by its number, where it is one of n and shares a rate.
-fn member(k: usize, n: usize, other: &Rate, mine: &Rate, out: &mut [u8], at: usize) -> usize
-    ensures { Puts (numbers (member_if k n (told_rate other.now) (told_rate mine.now))) out.old at out.new result × (result ≤ at + 21) }
+fn member(k: usize, n: usize, other: &Rated, mine: &Rated, out: &mut [u8], at: usize) -> usize
+    ensures { Puts (numbers (member_if k n (flat other.now) (flat mine.now))) out.old at out.new result × (result ≤ at + 21) }
 {
     if k < n && alike(other, mine) {
         return words::number(k as u64, out, at);
@@ -73,7 +70,7 @@ fn member(k: usize, n: usize, other: &Rate, mine: &Rate, out: &mut [u8], at: usi
 }
 
 // The transitions that share the rate of v.
-pub fn members(rates: &[Rate; 256], n: usize, v: usize, out: &mut [u8], at: usize) -> usize
+pub fn members(rates: &[Rated; 256], n: usize, v: usize, out: &mut [u8], at: usize) -> usize
     requires { v < 256 }
     ensures { Puts (numbers (members_to (told_rates rates.now) n v 256)) out.old at out.new result × (result ≤ at + 21 * 256) }
 {
