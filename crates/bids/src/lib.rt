@@ -5,7 +5,7 @@ ghost use Rattle.std.specs.Prelude.{◌≡◌, ◌*◌, ltb, IfOk};
 ghost use Rattle.bids.specs.Promise.{told_bid, told_laid, choice_of, BidOf, LaidOf, BetterOf};
 ghost use Rattle.bids.specs.Steps.{Small};
 
-use engine::{Range, Ratio};
+pub use engine::{Range, Ratio};
 use refusals::Refusal;
 
 // The better of two bids; neither, where neither can be analysed.

@@ -99,6 +99,8 @@ impl From<Result<(), Refusal>> for PeriodStatus {
     }
 }
 
+// These four have a `match` where `?` would do: with `?` the table, of 32 KB, is copied once more.
+
 // The analysis of what was handed in.
 pub fn analysed(
     handed: Result<Table, Refusal>,
@@ -108,21 +110,30 @@ pub fn analysed(
 ) -> Result<Analysis, Refusal>
     ensures { AnalysisFrom (told_handed handed) schedule.old low.old high.old (flat_analysis_of (told_analysis result)) schedule.new low.new high.new }
 {
-    period::analyse(handed?, schedule, low, high)
+    match handed {
+        Ok(t) => period::analyse(t, schedule, low, high),
+        Err(e) => Err(e),
+    }
 }
 
 // The rate of transition v of what was handed in.
 pub fn rated(handed: Result<Table, Refusal>, v: usize) -> Result<Range, Refusal>
     ensures { RateFrom (told_handed handed) v (flat_rate_of (told_rate result)) }
 {
-    period::rate(handed?, v)
+    match handed {
+        Ok(t) => period::rate(t, v),
+        Err(e) => Err(e),
+    }
 }
 
 // The rule file of what was handed in.
 pub fn written(handed: Result<Table, Refusal>, out: &mut [u8]) -> Result<usize, Refusal>
     ensures { WritingFrom (told_handed handed) out.old (flat_count (told_written result)) out.new }
 {
-    rulefile::write(handed?, out)
+    match handed {
+        Ok(t) => rulefile::write(t, out),
+        Err(e) => Err(e),
+    }
 }
 
 // The timing simulation of what was handed in.
@@ -133,7 +144,10 @@ pub fn simulated(
 ) -> Result<(), Refusal>
     ensures { SimulationFrom (told_handed handed) occurrences times.old (flat_status (told result)) times.new }
 {
-    simulation::simulate(handed?, occurrences, times)
+    match handed {
+        Ok(t) => simulation::simulate(t, occurrences, times),
+        Err(e) => Err(e),
+    }
 }
 
 // The text for a file into a lent buffer.

@@ -5,7 +5,7 @@ use Rattle.std.specs.Prelude.{◌≡◌, refl, ◌<◌, ltb}
 use Rattle.std.proofs.Common.{arith}
 use Rattle.handed.specs.Columns.{Handed}
 use Rattle.handed.specs.Columns.{Columns, ReadColumns, read_as, refused_columns, read_into, short_for}
-use Rattle.demands.specs.Demand1.{picked}
+use Rattle.demands.specs.Reading.{picked}
 
 abbrev OnlyColumns : Columns → ReadColumns → Type 0
 OnlyColumns c x = 0 < x.result.refusal → x ≡ read_as (refused_columns x.result.refusal x.result.place) c

@@ -20,7 +20,7 @@
 -- A REFUSAL, a number above 0, HANDS BACK NUMBER AND PLACE ALONE, AND EVERY LENT BUFFER IS AS IT WAS:
 --
 --   number_refused, check_refused, reading_refused, writing_refused, analysis_refused, rate_refused, simulation_refused, bid_refused, better_refused
-use Rattle.std.specs.Prelude.{◌≡◌, refl, Bool, true, false, List, [], ℕ, ◌+◌, ◌-◌, ◌<◌, length, ltb}
+use Rattle.std.specs.Prelude.{◌≡◌, refl, Bool, true, false, Result, Ok, Err, List, [], ℕ, ◌+◌, ◌-◌, ◌<◌, length, ltb}
 use Rattle.std.proofs.Common.{ap, subst, inl, inr, ⊎_elim, arith}
 use Rattle.std.proofs.Math.Path.{subst⁻¹}
 use Rattle.std.proofs.Math.Logic.{by_cases}
@@ -28,9 +28,13 @@ use Rattle.std.proofs.Math.Decide.{dec_lt}
 use Rattle.std.specs.Borrow.{Bor}
 use Rattle.sevens.specs.declared.Raw.{Raw}
 use Rattle.sevens.specs.declared.Raw.TheVariants.{Cut, Long, Value}
-use Rattle.sevens.specs.Sevens.{pick, Answer, refused, limited, raw_of, number_of, Read}
+use Rattle.sevens.specs.Sevens.{Answer, refused, accepted, limited, raw_of, number_of, value_told, Read}
+use Rattle.sevens.specs.Laws.{number_split}
 use Rattle.table.specs.declared.Table.{Table}
-use Rattle.refusals.specs.Number.{Told}
+use Rattle.refusals.specs.declared.Refusal.{Refusal}
+use Rattle.refusals.specs.declared.Why.{Why}
+use Rattle.refusals.specs.declared.Why.TheVariants.{Cut as IsCut, Long as IsLong, Range}
+use Rattle.refusals.specs.Number.{Told, told, number_of as number_of_why, number_positive}
 use Rattle.table.specs.Fields.{FirstBad, Judged, within_or_first_bad}
 use Rattle.rulefile.specs.declared.FileRead.{FileRead}
 use Rattle.rulefile.specs.File.{Written}
@@ -45,13 +49,9 @@ use Rattle.rates.specs.Rate.{RateVerdict, bad_field, no_name, knot_at, unreached
 use Rattle.simulation.specs.Simulation.{SimulationOf}
 use Rattle.bids.specs.Promise.{refused_bid, judged_bid, BidOf, File, Handed, choice_of, BetterOf}
 use Rattle.rulefile.specs.RoundTrip.{refused_empty}
+use Rattle.demands.specs.Reading.{refusal, picked}
 use Rattle.demands.specs.Exists.{Buffers}
 use Rattle.demands.specs.Outcomes.{short_or_roomy, simulation_cases}
-
--- what holds of both holds of the one picked
-pub picked : {A : Type 0} (P : A → Type 0) (c : Bool) (x y : A) → P x → P y → P (pick c x y)
-picked P true x y a b = a
-picked P false x y a b = b
 
 -- ------------------------------------------------------------------------------------------------------------------------------------- a number
 
@@ -71,13 +71,24 @@ pub number_refused : (g low high : ℕ) (s : Bor (List ℕ)) (a : Answer) (to : 
 unfolding number_of
 number_refused g low high s a to x l = (subst OnlyRefused x.answer (limited_refused g s.now low high (raw_of g s.now)) l, x.at_start l)
 
--- A NUMBER OR A REFUSAL, whatever the bytes
-pub number_exists : (g low high : ℕ) (s : Bor (List ℕ)) → (a : Answer) × (to : ℕ × ℕ) × Read g s.now low high a.value a.refusal a.place a.rest s.ref_ptr to
+-- the answer a to the bytes s is told by some result and part
+abbrev ToldPart : Bor (List ℕ) → Answer → Type 0
+ToldPart s a =
+    (x : Result ℕ Refusal) × (r : List ℕ) × (to : ℕ × ℕ) × (a ≡ record { value = value_told x; refusal = (told x).refusal; place = (told x).place; rest = r })
+    × (0 < (told x).refusal → to ≡ s.ref_ptr) × ((told x).refusal ≡ 0 → (to.0 ≡ s.ref_ptr.0) × (to.1 ≡ s.ref_ptr.1 + (length s.now - length r)))
+
+-- A NUMBER OR A REFUSAL, whatever the bytes: as the call hands it back, with the part r beside it
+pub number_exists : (g low high : ℕ) (s : Bor (List ℕ))
+    → (x : Result ℕ Refusal) × (r : List ℕ) × (to : ℕ × ℕ) × Read g s.now low high (value_told x) (told x).refusal (told x).place r s.ref_ptr to
 number_exists g low high s =
-    let a = number_of g s.now low high in
-    by_cases (dec_lt 0 a.refusal)
-    (λ l. (a, s.ref_ptr, record { answer = refl; at_start = λ g. refl; at_end = λ e. absurd (omega arith) }))
-    (λ l. (a, (s.ref_ptr.0, s.ref_ptr.1 + (length s.now - length a.rest)), record { answer = refl; at_start = λ g. absurd (omega arith); at_end = λ e. (refl, refl) }))
+    let (x, r, to, a, b, c) = number_split g s.now low high (ToldPart s) (λ e. bad IsCut _) (λ e. bad IsLong _) (λ v k e o. bad Range 0) (λ v k e l h. good v _) in
+    (x, r, to, record { answer = a; at_start = b; at_end = c })
+  where
+    bad : (w : Why) (p : ℕ) → ToldPart s (refused (number_of_why w) p)
+    bad w p = (Err (refusal w p), [], s.ref_ptr, refl, λ l. refl, λ e. absurd (omega (arith, number_positive w)))
+
+    good : (v : ℕ) (r : List ℕ) → ToldPart s (accepted v r)
+    good v r = (Ok v, r, (s.ref_ptr.0, s.ref_ptr.1 + (length s.now - length r)), refl, λ l. absurd (omega arith), λ e. (refl, refl))
 
 -- --------------------------------------------------------------------------------------------------------------------------------------- a table
 

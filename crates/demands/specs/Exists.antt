@@ -1,4 +1,5 @@
--- THERE IS AN OUTCOME of each of these calls, for every input. That there is only one is proved where the promises stand.
+-- THERE IS AN OUTCOME of each of these calls, for every input: an answer or a refusal as the call hands it back (`Result`), of which what is told
+-- keeps the promise. That there is only one is proved where the promises stand, and in Once.
 --
 --   Buffers             == the contents of the three lent buffers: the schedule's, the low loop's, the high loop's
 --   DelaysAre t D       == the delay of every rule r of t is known, and is D r
@@ -11,7 +12,8 @@
 --   a simulation               simulation_exists
 --   a bid, two bids, the better of two     bid_exists, laid_exists, better_exists
 --   a report                   text_exists
-use Rattle.std.specs.Prelude.{◌≡◌, refl, List, [], ◌++◌, ℕ, ◌*◌, ◌≤◌, ◌<◌, length, get_or, drop}
+use Prim.{Unit}
+use Rattle.std.specs.Prelude.{◌≡◌, refl, Bool, true, false, Result, Ok, Err, List, [], ◌++◌, ℕ, ◌*◌, ◌≤◌, ◌<◌, length, get_or, drop, ltb}
 use Rattle.std.proofs.Common.{sym, ap, subst, inl, inr, ⊎_elim, arith, mul_comm}
 use Rattle.std.proofs.Math.Logic.{by_cases}
 use Rattle.std.proofs.Math.Logic.Dec
@@ -23,43 +25,46 @@ use Rattle.theory.specs.Knot.{knot_unique, knot_not_live, knot_or_live}
 use Rattle.table.specs.declared.Delay.{Delay}
 use Rattle.table.specs.declared.Delay.TheVariants.{Known, Unknown}
 use Rattle.table.specs.declared.Table.{Table}
-use Rattle.refusals.specs.Number.{Told}
+use Rattle.refusals.specs.declared.Refusal.{Refusal}
+use Rattle.refusals.specs.declared.Why.{Why}
+use Rattle.refusals.specs.declared.Why.TheVariants.{Range, Loop, Flat, Room, Span as OutOfSpan, Name, Unknown as Blank}
+use Rattle.refusals.specs.Number.{number_of, number_positive, told}
 use Rattle.table.specs.Limits.{min_occurrences, max_occurrences}
 use Rattle.table.specs.Form.{unused_rule}
 use Rattle.table.specs.Fields.{Within, FirstBad, Judged, within_or_first_bad, within_not_bad, first_bad_unique}
 use Rattle.table.specs.Meaning.{used, delay_meant, shape_of, ranges_of, within_fits}
-use Rattle.rulefile.specs.File.{Written}
-use Rattle.rulefile.specs.File.{file_of, read_of, refused_write, written_as, Writes}
-use Rattle.engine.specs.Verdict.{verdict_exists}
-use Rattle.period.specs.Promise.{Outcome, outcome_of, AnalysisOf}
-use Rattle.rates.specs.Rate.{Rated}
-use Rattle.rates.specs.Rate.{rate_verdict_exists, rated_of, RateOf}
+use Rattle.rulefile.specs.declared.FileRead.{FileRead}
+use Rattle.rulefile.specs.File.{file_of, read_of, told_read, refused_write, told_written, Writes}
+use Rattle.engine.specs.declared.Range.{Range as Ends}
+use Rattle.engine.specs.Verdict.{Verdict, outside, knotted, flat, wide, found, Judges, never_wide_at, verdict_exists}
+use Rattle.period.specs.declared.Analysis.{Analysis}
+use Rattle.period.specs.Promise.{pick, Outcome, outcome, told_analysis, end_of, into, judged_outcome, is_outside, room_for, outcome_of, AnalysisOf}
+use Rattle.rates.specs.Rate.{RateVerdict, bad_field, no_name, knot_at, unreached, too_wide, rated, JudgesRate, rate_never_wide, rate_verdict_exists, told_rate, rated_of, RateOf}
 use Rattle.simulation.specs.Simulation.{delays, Span, NoBlank, FirstBlank, Refused, SimulationOf, no_or_first_blank}
-use Rattle.bids.specs.Promise.{Bid}
+use Rattle.bids.specs.declared.Laid.{Laid}
 use Rattle.bids.specs.declared.Choice.{Choice}
 use Rattle.bids.specs.declared.Choice.TheVariants.{Neither, First, Second}
-use Rattle.bids.specs.Promise.{Laid}
-use Rattle.bids.specs.Promise.{refused_bid, judged_bid, BidOf, choice_of, LaidOf, File, Handed, BetterOf}
+use Rattle.bids.specs.Promise.{Bid, told_bid, judged_bid, ReadBid, BidOf, choice_of, told_laid, LaidOf, File, Handed, BetterOf}
 use Rattle.words.specs.Lines.{refused_line_of}
 use Rattle.text.specs.Text.{verdict_text, FileText}
+use Rattle.demands.specs.Reading.{refusal, file_exists}
 use Rattle.demands.specs.Timed.{timed_exists}
 
 -- ------------------------------------------------------------------------------------------------------------------------------- tables and files
 
 -- THE CHECK OF A TABLE
-pub judged_exists : (t : Table) → (x : Told) × Judged t x
-judged_exists t =
-    ⊎_elim (λ w. (record { refusal = 0; place = 0 }, inl (w, refl, refl))) (λ b. (record { refusal = 3; place = b.0 }, inr (b.1, refl))) (within_or_first_bad t)
+pub judged_exists : (t : Table) → (x : Result Unit Refusal) × Judged t (told x)
+judged_exists t = ⊎_elim (λ w. (Ok tt, inl (w, refl, refl))) (λ b. (Err (refusal Range b.0), inr (b.1, refl))) (within_or_first_bad t)
 
 -- WRITING
-pub writes_exists : (t : Table) (out : List ℕ) → (w : Written) × (after : List ℕ) × Writes t out w after
+pub writes_exists : (t : Table) (out : List ℕ) → (w : Result ℕ Refusal) × (after : List ℕ) × Writes t out (told_written w) after
 writes_exists t out =
     ⊎_elim
     (λ i. by_cases (dec_lt (length out) (length (file_of t)))
-    (λ l. (refused_write 8 (length (file_of t)), out, record { range = λ k f. absurd (within_not_bad t k i f); room = λ w g. (refl, refl); written = λ w g. absurd (omega arith) }))
-    (λ l. (written_as (length (file_of t)), file_of t ++ drop (length (file_of t)) out, record { range = λ k f. absurd (within_not_bad t k i f); room = λ w g. absurd (omega arith); written = λ w g. (refl, refl) })))
+    (λ l. (Err (refusal Room (length (file_of t))), out, record { range = λ k f. absurd (within_not_bad t k i f); room = λ w g. (refl, refl); written = λ w g. absurd (omega arith) }))
+    (λ l. (Ok (length (file_of t)), file_of t ++ drop (length (file_of t)) out, record { range = λ k f. absurd (within_not_bad t k i f); room = λ w g. absurd (omega arith); written = λ w g. (refl, refl) })))
     (λ b. (
-      refused_write 3 b.0,
+      Err (refusal Range b.0),
       out,
       record {
         range = λ k f. (ap (refused_write 3) (first_bad_unique t b.0 k b.1 f), refl);
@@ -79,13 +84,61 @@ pub record Buffers : Type 0 where
 abbrev pub buffers : List ℕ → List ℕ → List ℕ → Buffers
 buffers x l h = record { schedule = x; low = l; high = h }
 
--- AN ANALYSIS
-pub analysis_exists : (t : Table) (b : Buffers) → (o : Outcome) × AnalysisOf t b.schedule b.low b.high o
-analysis_exists t b = let (v, j) = verdict_exists t in (outcome_of t.n v b.schedule b.low b.high, record { verdict = v; judged = j; result = refl })
+-- what holds of both holds of the one picked
+either : {A : Type 0} (P : A → Type 0) (c : Bool) (x y : A) → P x → P y → P (pick c x y)
+either P true x y a b = a
+either P false x y a b = b
+
+-- an outcome of which the result is told by what a call may hand back
+abbrev Handed_back : Outcome → Type 0
+Handed_back o = (r : Result Analysis Refusal) × (after : Buffers) × (o ≡ outcome (told_analysis r) after.schedule after.low after.high)
+
+module _ (t : Table) (b : Buffers) where
+  refuses_with : (w : Why) (p : ℕ) → Handed_back (outcome (told_analysis (Err (refusal w p))) b.schedule b.low b.high)
+  refuses_with w p = (Err (refusal w p), b, refl)
+
+  judged : (v : Verdict) → Judges t v → Handed_back (judged_outcome v b.schedule b.low b.high)
+  judged (outside k) j = refuses_with Range k
+  judged (knotted u) j = refuses_with Loop u
+  judged flat j = refuses_with Flat 0
+  judged wide j = absurd (never_wide_at t j.0 j.2.0 j.2.1 j.2.2)
+  judged (found a) j = (
+    Ok (record {
+      exact = a.ends.exact;
+      low = end_of a.ends.low_p a.ends.low_q (length a.low_loop);
+      high = end_of a.ends.high_p a.ends.high_q (length a.high_loop);
+    }),
+    buffers (into a.schedule b.schedule) (into a.low_loop b.low) (into a.high_loop b.high),
+    refl,
+  )
+
+  roomy : (v : Verdict) → Judges t v → Handed_back (room_for t.n v b.schedule b.low b.high)
+  roomy v j =
+      either Handed_back (ltb (length b.schedule) t.n) _ _ (refuses_with Room t.n)
+      (either Handed_back (ltb (length b.low) t.n) _ _ (refuses_with Room t.n)
+      (either Handed_back (ltb (length b.high) t.n) _ _ (refuses_with Room t.n) (judged v j)))
+
+  -- AN ANALYSIS
+  pub analysis_exists : (r : Result Analysis Refusal) × (after : Buffers) × AnalysisOf t b.schedule b.low b.high (outcome (told_analysis r) after.schedule after.low after.high)
+  analysis_exists =
+      let (v, j) = verdict_exists t in
+      let (r, after, e) = either Handed_back (is_outside v) _ _ (judged v j) (roomy v j) in
+      (r, after, record { verdict = v; judged = j; result = sym e })
 
 -- A RATE
-pub rated_exists : (t : Table) (v : ℕ) → (r : Rated) × RateOf t v r
-rated_exists t v = let (x, j) = rate_verdict_exists t v in (rated_of t.n x, record { verdict = x; judged = j; result = refl })
+pub rated_exists : (t : Table) (v : ℕ) → (r : Result Ends Refusal) × RateOf t v (told_rate r)
+rated_exists t v = let (x, j) = rate_verdict_exists t v in at x j
+  where
+    at : (x : RateVerdict) → JudgesRate t v x → (r : Result Ends Refusal) × RateOf t v (told_rate r)
+    at (bad_field k) j = (Err (refusal Range k), record { verdict = bad_field k; judged = j; result = refl })
+    at no_name j = (Err (refusal Name t.n), record { verdict = no_name; judged = j; result = refl })
+    at (knot_at u) j = (Err (refusal Loop u), record { verdict = knot_at u; judged = j; result = refl })
+    at unreached j = (Err (refusal Flat 0), record { verdict = unreached; judged = j; result = refl })
+    at too_wide j = absurd (rate_never_wide t j.0 v j.1 j.3.0 j.3.1 j.3.2)
+    at (rated a) j = (
+      Ok (record { exact = a.exact; low = record { p = a.low_p; q = a.low_q }; high = record { p = a.high_p; q = a.high_q } }),
+      record { verdict = rated a; judged = j; result = refl },
+    )
 
 -- ---------------------------------------------------------------------------------------------------------------------------------- a simulation
 
@@ -105,24 +158,24 @@ first_blank_unique t q r a b =
 
 module _ (t : Table) (N : ℕ) (out₀ : List ℕ) where
   abbrev SomeOutcome : Type 0
-  SomeOutcome = (r : Told) × (out : List ℕ) × SimulationOf t N out₀ r out
+  SomeOutcome = (r : Result Unit Refusal) × (out : List ℕ) × SimulationOf t N out₀ (told r) out
 
-  abbrev refused_by : ℕ → ℕ → Told
-  refused_by f p = record { refusal = f; place = p }
+  abbrev refused_by : Why → ℕ → Result Unit Refusal
+  refused_by w p = Err (refusal w p)
 
-  refuses : (f p q : ℕ) → p ≡ q → Refused f q out₀ (refused_by f p) out₀
-  refuses f p q e = record { number = refl; place = e; kept = refl }
+  refuses : (w : Why) (p q : ℕ) → p ≡ q → Refused (number_of w) q out₀ (told (refused_by w p)) out₀
+  refuses w p q e = record { number = refl; place = e; kept = refl }
 
   -- A SIMULATION: each of the six cases shuts out the other five
-  pub simulation_exists : (r : Told) × (out : List ℕ) × SimulationOf t N out₀ r out
+  pub simulation_exists : (r : Result Unit Refusal) × (out : List ℕ) × SimulationOf t N out₀ (told r) out
   simulation_exists = ⊎_elim within (λ k. bad k.0 k.1) (within_or_first_bad t)
     where
       bad : (k : ℕ) → FirstBad t k → SomeOutcome
       bad k b = (
-        refused_by 3 k,
+        refused_by Range k,
         out₀,
         record {
-          outside = λ j c. refuses 3 k j (first_bad_unique t k j b c);
+          outside = λ j c. refuses Range k j (first_bad_unique t k j b c);
           span = λ w. absurd (within_not_bad t k w b);
           unknown = λ w. absurd (within_not_bad t k w b);
           room = λ w. absurd (within_not_bad t k w b);
@@ -134,7 +187,7 @@ module _ (t : Table) (N : ℕ) (out₀ : List ℕ) where
       turning : Within t → Span N → NoBlank t → t.n * N ≤ length out₀ → Live (shape_of t) → SomeOutcome
       turning w n none room live =
           let (out, x) = timed_exists (shape_of t) (delays t) N t.n (within_fits t w) live out₀ (omega (arith, mul_comm t.n N)) in (
-            refused_by 0 0,
+            Ok tt,
             out,
             record {
               outside = λ j c. absurd (within_not_bad t j w c);
@@ -148,27 +201,27 @@ module _ (t : Table) (N : ℕ) (out₀ : List ℕ) where
 
       knotted : Within t → Span N → NoBlank t → t.n * N ≤ length out₀ → (u : ℕ) → Knot (shape_of t) u → SomeOutcome
       knotted w n none room u k = (
-        refused_by 5 u,
+        refused_by Loop u,
         out₀,
         record {
           outside = λ j c. absurd (within_not_bad t j w c);
           span = λ v d. absurd (d n);
           unknown = λ v s q f. absurd (none q f.blank);
           room = λ v s b l. absurd (omega arith);
-          loop = λ v s b l x h. refuses 5 u x (knot_unique (shape_of t) u x k h);
+          loop = λ v s b l x h. refuses Loop u x (knot_unique (shape_of t) u x k h);
           simulated = λ v s b l h. absurd (knot_not_live (shape_of t) u k h);
         },
       )
 
       short : Within t → Span N → NoBlank t → length out₀ < t.n * N → SomeOutcome
       short w n none l = (
-        refused_by 8 (t.n * N),
+        refused_by Room (t.n * N),
         out₀,
         record {
           outside = λ j c. absurd (within_not_bad t j w c);
           span = λ v d. absurd (d n);
           unknown = λ v s q f. absurd (none q f.blank);
-          room = λ v s b h. refuses 8 (t.n * N) (t.n * N) refl;
+          room = λ v s b h. refuses Room (t.n * N) (t.n * N) refl;
           loop = λ v s b h. absurd (omega arith);
           simulated = λ v s b h. absurd (omega arith);
         },
@@ -176,12 +229,12 @@ module _ (t : Table) (N : ℕ) (out₀ : List ℕ) where
 
       blank : Within t → Span N → (q : ℕ) → FirstBlank t q → SomeOutcome
       blank w n q f = (
-        refused_by 7 q,
+        refused_by Blank q,
         out₀,
         record {
           outside = λ j c. absurd (within_not_bad t j w c);
           span = λ v d. absurd (d n);
-          unknown = λ v s x g. refuses 7 q x (first_blank_unique t q x f g);
+          unknown = λ v s x g. refuses Blank q x (first_blank_unique t q x f g);
           room = λ v s b. absurd (b q f.blank);
           loop = λ v s b. absurd (b q f.blank);
           simulated = λ v s b. absurd (b q f.blank);
@@ -190,11 +243,11 @@ module _ (t : Table) (N : ℕ) (out₀ : List ℕ) where
 
       unspanned : Within t → ¬ (Span N) → SomeOutcome
       unspanned w d = (
-        refused_by 9 0,
+        refused_by OutOfSpan 0,
         out₀,
         record {
           outside = λ j c. absurd (within_not_bad t j w c);
-          span = λ v e. refuses 9 0 0 refl;
+          span = λ v e. refuses OutOfSpan 0 0 refl;
           unknown = λ v s. absurd (d s);
           room = λ v s. absurd (d s);
           loop = λ v s. absurd (d s);
@@ -215,31 +268,44 @@ module _ (t : Table) (N : ℕ) (out₀ : List ℕ) where
 
 -- ------------------------------------------------------------------------------------------------------------------------------------------ bids
 
+ends_told : (t : Table) (v : Verdict) → Judges t v → (b : Result Ends Refusal) × (told_bid b ≡ judged_bid v)
+ends_told t (outside k) j = (Err (refusal Range k), refl)
+ends_told t (knotted u) j = (Err (refusal Loop u), refl)
+ends_told t flat j = (Err (refusal Flat 0), refl)
+ends_told t wide j = absurd (never_wide_at t j.0 j.2.0 j.2.1 j.2.2)
+ends_told t (found a) j =
+    (Ok (record { exact = a.ends.exact; low = record { p = a.ends.low_p; q = a.ends.low_q }; high = record { p = a.ends.high_p; q = a.ends.high_q } }), refl)
+
 -- A BID
-pub bid_exists : (s : List ℕ) → (b : Bid) × BidOf s b
-bid_exists s =
-    by_cases (dec_lt 0 (read_of s).refusal)
-    (λ l. (refused_bid (read_of s).refusal (read_of s).place, record { refused = λ g. refl; accepted = λ g. absurd (omega arith) }))
-    (λ l.
-    let (v, j) = verdict_exists (read_of s).table in
-    (judged_bid v, record { refused = λ g. absurd (omega arith); accepted = λ g. record { verdict = v; judged = j; result = refl } }))
+pub bid_exists : (s : List ℕ) → (b : Result Ends Refusal) × BidOf s (told_bid b)
+bid_exists s = let (r, e) = file_exists s in at r e
+  where
+    at : (r : Result Table Refusal) → told_read r ≡ read_of s → (b : Result Ends Refusal) × BidOf s (told_bid b)
+    at (Err e) f = (
+      Err e,
+      subst (λ (g : FileRead). ReadBid g (told_bid (Err e))) f (record { refused = λ l. refl; accepted = λ l. absurd (omega (arith, number_positive e.why)) }),
+    )
+    at (Ok t) f =
+        let (v, j) = verdict_exists t in
+        let (b, g) = ends_told t v j in
+        (b, subst (λ (g : FileRead). ReadBid g (told_bid b)) f (record { refused = λ l. absurd (omega arith); accepted = λ l. record { verdict = v; judged = j; result = g } }))
 
 -- TWO BIDS SIDE BY SIDE
-pub laid_exists : (s t : List ℕ) → (l : Laid) × LaidOf s t l
+pub laid_exists : (s t : List ℕ) → (l : Laid) × LaidOf s t (told_laid l)
 laid_exists s t =
     let (a, x) = bid_exists s in
     let (b, y) = bid_exists t in
-    (record { first = a; second = b; choice = choice_of a b }, record { first = x; second = y; choice = refl })
+    (record { first = a; second = b; choice = choice_of (told_bid a) (told_bid b) }, record { first = x; second = y; choice = refl })
 
 -- THE BETTER OF TWO: the empty part at the first file's start is a part
 pub better_exists : (x y : File) → (r : File) × (w : ℕ) × (f : ℕ) × (p : ℕ) × BetterOf x y r w f p
 better_exists x y = at (choice_of a b) refl
   where
     a : Bid
-    a = (bid_exists x.now).0
+    a = told_bid (bid_exists x.now).0
 
     b : Bid
-    b = (bid_exists y.now).0
+    b = told_bid (bid_exists y.now).0
 
     made : (r : File) (w f p : ℕ) → Handed (choice_of a b) a x y r w f p → BetterOf x y r w f p
     made r w f p h = record { first = a; second = b; is_first = (bid_exists x.now).1; is_second = (bid_exists y.now).1; handed = h }

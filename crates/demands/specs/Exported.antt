@@ -19,10 +19,10 @@ use Rattle.sevens.specs.Sevens.{number_of, refused}
 use Rattle.table.specs.declared.Table.{Table}
 use Rattle.rates.specs.Rate.{Rated}
 use Rattle.rulefile.specs.File.{Written}
-use Rattle.refusals.specs.Number.{Told}
-use Rattle.rulefile.specs.File.{groups, refused_write, written_as, Writes}
-use Rattle.period.specs.Promise.{Outcome, outcome, refused_analysis, AnalysisOf}
-use Rattle.rates.specs.Rate.{refused_rate, RateOf}
+use Rattle.refusals.specs.Number.{Told, told}
+use Rattle.rulefile.specs.File.{groups, refused_write, written_as, told_written, Writes}
+use Rattle.period.specs.Promise.{Outcome, outcome, refused_analysis, told_analysis, AnalysisOf}
+use Rattle.rates.specs.Rate.{refused_rate, told_rate, RateOf}
 use Rattle.simulation.specs.Simulation.{SimulationOf}
 use Rattle.bids.specs.Promise.{File}
 use Rattle.handed.specs.Columns.{Handed}
@@ -53,7 +53,8 @@ asked_exists h R A f g =
 pub analysis_from_exists : (h : Handed) (x l g : List ℕ) → (r : PeriodAnalysis) × (left : Buffers) × AnalysisFrom h x l g r left.schedule left.low left.high
 analysis_from_exists h x l g =
     let (o, y) = asked_exists h (λ f p (z : Outcome). z ≡ outcome (refused_analysis f p) x l g) (λ t z. AnalysisOf t x l g z)
-    (λ f p. (outcome (refused_analysis f p) x l g, refl)) (λ t. analysis_exists t (buffers x l g)) in
+    (λ f p. (outcome (refused_analysis f p) x l g, refl))
+    (λ t. let (r, after, y) = analysis_exists t (buffers x l g) in (outcome (told_analysis r) after.schedule after.low after.high, y)) in
     (flat_analysis_of o.result, buffers o.schedule o.low o.high, record { analysis = o.result; result = refl; asked = y })
 
 pub analysis_from_refused : (h : Handed) (x l g : List ℕ) (r : PeriodAnalysis) (x' l' g' : List ℕ) → AnalysisFrom h x l g r x' l' g' → 0 < r.refusal
@@ -75,7 +76,8 @@ analysis_from_refused h x l g r x' l' g' a b = (
 
 pub rate_from_exists : (h : Handed) (v : ℕ) → (r : PeriodRate) × RateFrom h v r
 rate_from_exists h v =
-    let (a, x) = asked_exists h (λ f p (z : Rated). z ≡ refused_rate f p) (λ t z. RateOf t v z) (λ f p. (refused_rate f p, refl)) (λ t. rated_exists t v) in
+    let (a, x) = asked_exists h (λ f p (z : Rated). z ≡ refused_rate f p) (λ t z. RateOf t v z) (λ f p. (refused_rate f p, refl))
+    (λ t. let (r, y) = rated_exists t v in (told_rate r, y)) in
     (flat_rate_of a, record { rate = a; result = refl; asked = x })
 
 pub rate_from_refused : (h : Handed) (v : ℕ) (r : PeriodRate) → RateFrom h v r → 0 < r.refusal → r ≡ flat_rate_of (refused_rate r.refusal r.place)
@@ -92,7 +94,7 @@ rate_from_refused h v r x l = subst⁻¹ (λ (z : PeriodRate). z ≡ flat_rate_o
 pub writing_from_exists : (h : Handed) (out : List ℕ) → (r : PeriodCount) × (after : List ℕ) × WritingFrom h out r after
 writing_from_exists h out =
     let ((w, after), x) = asked_exists h (λ f p (z : Written × List ℕ). (z.0 ≡ refused_write f p) × (z.1 ≡ out)) (λ t z. Writes t out z.0 z.1)
-    (λ f p. ((refused_write f p, out), (refl, refl))) (λ t. let (w, a, y) = writes_exists t out in ((w, a), y)) in
+    (λ f p. ((refused_write f p, out), (refl, refl))) (λ t. let (w, a, y) = writes_exists t out in ((told_written w, a), y)) in
     (flat_count w, after, record { written = w; result = refl; asked = x })
 
 pub writing_from_refused : (h : Handed) (out : List ℕ) (r : PeriodCount) (after : List ℕ) → WritingFrom h out r after → 0 < r.refusal
@@ -110,7 +112,7 @@ writing_from_refused h out r after x l = (subst⁻¹ (λ (z : PeriodCount). z �
 pub simulation_from_exists : (h : Handed) (N : ℕ) (out : List ℕ) → (r : PeriodStatus) × (after : List ℕ) × SimulationFrom h N out r after
 simulation_from_exists h N out =
     let ((s, after), x) = asked_exists h (λ f p (z : Told × List ℕ). (z.0 ≡ unsimulated f p) × (z.1 ≡ out)) (λ t z. SimulationOf t N out z.0 z.1)
-    (λ f p. ((unsimulated f p, out), (refl, refl))) (λ t. let (s, a, y) = simulation_exists t N out in ((s, a), y)) in
+    (λ f p. ((unsimulated f p, out), (refl, refl))) (λ t. let (s, a, y) = simulation_exists t N out in ((told s, a), y)) in
     (flat_status s, after, record { simulated = s; result = refl; asked = x })
 
 -- number and place are all that it hands back

@@ -2,6 +2,7 @@ pub mod Refused
 pub mod Filled
 pub mod Rates
 pub mod Timed
+pub mod Reading
 pub mod Exists
 pub mod Outcomes
 pub mod Demand1

@@ -3,18 +3,22 @@
 --   once                            from how a told record is read back: numbers of refusal are above 0, and no two reasons have the same
 --   lap_told_once, rate_told_once, bid_told_once, analysis_told_once, written_told_once, file_told_once, handed_told_once
 --                                   of `engine::measure`, `rates::rate`, `bids::ends`, `period::analyse`, `rulefile::write`, `rulefile::table`, `handed::from_columns`
+--   number_told_once                of `sevens::number`, whose promise speaks of the value and of the refusal apart
+--   laid_told_once                  of `bids::side_by_side`: two bids and the better one
 --
--- Of `table::check`, `engine::turns` and `simulation::simulate` it is `told_once` (refusals/Number). A listing of rates is flat by itself (`rates_text::list_rates`).
+-- Of `table::check`, `engine::turns` and `simulation::simulate` it is `told_once` (refusals/Number), of `rates_text::list_rates` `listing_told_once` (rates_text/Rates).
 use Rattle.std.specs.Prelude.{ℕ, ◌≡◌, refl, Result, Ok, Err}
 use Rattle.std.proofs.Common.{arith, sym, ap, ◌∙◌}
 use Rattle.refusals.specs.declared.Refusal.{Refusal}
-use Rattle.refusals.specs.Number.{number_of, number_positive, number_once}
+use Rattle.refusals.specs.Number.{Told, told, number_of, number_positive, number_once}
+use Rattle.sevens.specs.Sevens.{value_told}
 use Rattle.table.specs.declared.Table.{Table}
 use Rattle.engine.specs.declared.Range.{Range}
 use Rattle.engine.specs.declared.Lap.{Lap as Measured}
 use Rattle.engine.specs.Lap.{Lap, told_lap}
 use Rattle.rates.specs.Rate.{Rated, told_rate}
-use Rattle.bids.specs.Promise.{Bid, told_bid}
+use Rattle.bids.specs.declared.Laid.{Laid as Side_by_side}
+use Rattle.bids.specs.Promise.{Bid, told_bid, Laid, told_laid}
 use Rattle.period.specs.declared.Analysis.{Analysis as Analysed}
 use Rattle.period.specs.Promise.{Analysis, told_analysis}
 use Rattle.rulefile.specs.declared.FileRead.{FileRead}
@@ -62,3 +66,16 @@ file_told_once = once told_read (λ (f : FileRead). f.refusal) (λ (f : FileRead
 
 pub handed_told_once : (x y : Result Table Refusal) → told_handed x ≡ told_handed y → x ≡ y
 handed_told_once = once told_handed (λ (h : Handed). h.refusal) (λ (h : Handed). h.place) (λ (h : Handed). h.table) (λ a. (refl, refl)) (λ e. (refl, refl))
+
+pub number_told_once : (x y : Result ℕ Refusal) → value_told x ≡ value_told y → told x ≡ told y → x ≡ y
+number_told_once (Ok a) (Ok b) v e = ap Ok v
+number_told_once (Ok a) (Err f) v e = absurd (omega (arith, number_positive f.why, ap (λ (t : Told). t.refusal) e))
+number_told_once (Err f) (Ok b) v e = absurd (omega (arith, number_positive f.why, ap (λ (t : Told). t.refusal) e))
+number_told_once (Err f) (Err g) v e = ap Err (same_refusal f g (ap (λ (t : Told). t.refusal) e) (ap (λ (t : Told). t.place) e))
+
+pub laid_told_once : (x y : Side_by_side) → told_laid x ≡ told_laid y → x ≡ y
+laid_told_once x y e =
+    same x y (bid_told_once x.first y.first (ap (λ (l : Laid). l.first) e)) (bid_told_once x.second y.second (ap (λ (l : Laid). l.second) e)) (ap (λ (l : Laid). l.choice) e)
+  where
+    same : (x y : Side_by_side) → x.first ≡ y.first → x.second ≡ y.second → x.choice ≡ y.choice → x ≡ y
+    same x y f g c i = record { first = f i; second = g i; choice = c i }

@@ -174,7 +174,7 @@ analysis_p1 o is = lent_verdict P1 (found answer_1) p1_judged o is
 
 -- there is an outcome, and it is this one
 pub some_p1 : (o : Outcome) × AnalysisOf P1 lent.schedule lent.low lent.high o × (o ≡ outcome (exact_analysis 7 1 2) (0 ∷ 3 ∷ 9 ∷ []) (0 ∷ 1 ∷ 9 ∷ []) (0 ∷ 1 ∷ 9 ∷ []))
-some_p1 = let (o, is) = analysis_exists P1 lent in (o, is, analysis_p1 o is)
+some_p1 = let (r, after, is) = analysis_exists P1 lent in (_, is, analysis_p1 _ is)
 
 pub given_p1 : (o : Outcome) → AnalysisOf P1 lent.schedule lent.low lent.high o → GivenPeriod P1 delays_p1 lent o
 given_p1 o is = given_period P1 delays_p1 p1_known lent o is (ap (λ (z : Outcome). z.result.refusal) (analysis_p1 o is))

@@ -54,7 +54,7 @@ fn measured(rules: &Filled<'_>) -> Option<Side>
 }
 
 // Whether p/q and r/s, both in lowest terms, are equal.
-fn meet(p: u64, q: u64, r: u64, s: u64) -> bool
+pub fn meet(p: u64, q: u64, r: u64, s: u64) -> bool
     ensures { Exact p q r s result }
 {
     p == r && q == s

@@ -7,6 +7,7 @@ ghost use Rattle.refusals.specs.Number.{told};
 ghost use Rattle.engine.specs.Lap.{told_lap, LapOf};
 ghost use Rattle.engine.specs.Turn.{TurnOf};
 
+pub use laps::meet;
 use refusals::{Refusal, Why};
 use table::Table;
 

@@ -83,27 +83,26 @@ put_next f xs ys r v e g = rw (add-one r) (ap (λ (zs : List ℕ). set zs r v) e
 pub read_same : (h k : Handed) (c : Columns) (x : ReadColumns) → h ≡ k → read_into h c ≡ x → read_into k c ≡ x
 read_same h k c x e f = ap (λ (y : Handed). read_into y c) (sym e) ∙ f
 
--- the ways out of reading into columns: a refusal,
-pub read_refused : (number place : ℕ) (c : Columns) (r : PeriodTable) → 0 < number → r ≡ refused_columns number place → read_into (refused_table number place) c ≡ read_as r c
-unfolding read_into
-read_refused number place c r b e = rw (lt-ltb 0 number b, e) refl
-
--- a column that is too short,
-module _ (t : Table) (c : Columns) (r : PeriodTable) (e : r ≡ refused_columns 8 t.m) where
-  pub read_short_source : length c.source < t.m → read_into (given_table t) c ≡ read_as r c
+-- the ways out of reading into columns
+module _ (h : Handed) (c : Columns) (r : PeriodTable) where
+  pub read_refused : 0 < h.refusal → r ≡ refused_columns h.refusal h.place → read_into h c ≡ read_as r c
   unfolding read_into
-  read_short_source l = rw (lt-ltb (length c.source) t.m l, e) refl
+  read_refused b e = rw (lt-ltb 0 h.refusal b, e) refl
 
-  pub read_short : t.m ≤ length c.source → short_of t.m (length c.target) (length c.offset) (length c.delay) (length c.known) ≡ true → read_into (given_table t) c ≡ read_as r c
+  pub read_short_source : h.refusal ≤ 0 → length c.source < h.table.m → r ≡ refused_columns 8 h.table.m → read_into h c ≡ read_as r c
   unfolding read_into
-  read_short l s = rw (le-ltb (length c.source) t.m l, s, e) refl
+  read_short_source b l e = rw (le-ltb 0 h.refusal b, lt-ltb (length c.source) h.table.m l, e) refl
 
--- and the rules of a table
-pub read_all : (t : Table) (c k : Columns) → t.m ≤ length c.source
-    → short_of t.m (length c.target) (length c.offset) (length c.delay) (length c.known) ≡ false → k ≡ columns_from t c t.m
-    → read_into (given_table t) c ≡ read_as (sizes_of t) k
+  pub read_short : h.refusal ≤ 0 → h.table.m ≤ length c.source
+      → short_of h.table.m (length c.target) (length c.offset) (length c.delay) (length c.known) ≡ true → r ≡ refused_columns 8 h.table.m → read_into h c ≡ read_as r c
+  unfolding read_into
+  read_short b l s e = rw (le-ltb 0 h.refusal b, le-ltb (length c.source) h.table.m l, s, e) refl
+
+pub read_all : (h : Handed) (c k : Columns) → h.refusal ≤ 0 → h.table.m ≤ length c.source
+    → short_of h.table.m (length c.target) (length c.offset) (length c.delay) (length c.known) ≡ false → k ≡ columns_from h.table c h.table.m
+    → read_into h c ≡ read_as (sizes_of h.table) k
 unfolding read_into
-read_all t c k l s e = rw (le-ltb (length c.source) t.m l, s) (ap (read_as (sizes_of t)) (sym e))
+read_all h c k b l s e = rw (le-ltb 0 h.refusal b, le-ltb (length c.source) h.table.m l, s) (ap (read_as (sizes_of h.table)) (sym e))
 
 -- ---- a file
 

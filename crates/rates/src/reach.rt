@@ -2,12 +2,15 @@
 ghost use Rattle.std.specs.Prelude.{◌≡◌, ◌<◌, get_or};
 ghost use Rattle.model.specs.Loop.{Live};
 ghost use Rattle.columns.specs.Views.{of_columns};
+ghost use Rattle.peel.specs.Plain.{plain};
+ghost use Rattle.distances.specs.Queue.{Sought};
 ghost use Rattle.engine.specs.Lap.{ranges_in};
 ghost use Rattle.rates.specs.Rate.{RatedTo, told_rate};
 ghost use Rattle.rates.specs.Reach.{Counts, Taken};
 
 use crate::{Range, ends};
 use columns::{Columns, Row};
+use distances::Distances;
 use refusals::Refusal;
 
 // 1 where a rule into t is one of them, else 0: t reaches v where it is v itself, or some number of rules from it.
@@ -44,6 +47,14 @@ fn gather(c: &Columns, v: usize, dist: &[u16; 256]) -> Columns
     kept
 }
 
+// The two ends of the rules that reach v, by the distances to it: a function of its own, so that where every rule reaches v no room is cleared for them.
+fn ends_gathered(c: &Columns, v: usize, far: &Distances) -> Result<Range, Refusal>
+    requires { Live (of_columns c.now) × Sought (plain c.now.source c.now.target c.now.m) c.now.n v far.now.dist far.now.count }
+    ensures { RatedTo (of_columns c.now) (ranges_in c.now.least c.now.greatest) v (told_rate result) }
+{
+    ends::ends(&gather(c, v, &far.dist))
+}
+
 // The two ends of the rate of v, of rules all of whose loops turn; refused FLAT where no loop reaches v.
 pub fn ends_to(c: &Columns, v: usize) -> Result<Range, Refusal>
     requires { Live (of_columns c.now) × (v < c.now.n) }
@@ -53,5 +64,5 @@ pub fn ends_to(c: &Columns, v: usize) -> Result<Range, Refusal>
     if c.n <= far.count {
         return ends::ends(c); // every loop reaches v
     }
-    ends::ends(&gather(c, v, &far.dist))
+    ends_gathered(c, v, &far)
 }

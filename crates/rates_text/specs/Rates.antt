@@ -12,7 +12,7 @@
 --   GroupOf a v r        THE PROMISE of `group`: r holds it
 --   told s               the number that the digits s say, or one of 1,000 or more where they say one
 --
--- Theorems: file_rate_unique, rate_report_unique, listing_unique, group_unique (one outcome each), rate_first, listing_first (the first bytes decide).
+-- Theorems: file_rate_unique, rate_report_unique, listing_unique, group_unique (one outcome each), listing_told_once (what is told of a listing says all), rate_first, listing_first (the first bytes decide).
 use Rattle.std.specs.Prelude.{◌≡◌, refl, Bool, true, false, List, [], ◌∷◌, ◌++◌, ℕ, zero, suc, ◌+◌, ◌-◌, ◌*◌, ◌≤◌, ◌<◌, ltb, eqb, length, get_or, set, take, replicate, fold, map, ◌||◌}
 use Rattle.std.proofs.Common.{sym, ap, ◌∙◌, subst, arith, add-one, get_or-set_same, get_or-set_other, lt-ltb, le-ltb}
 use Rattle.std.proofs.Math.Logic.{by_cases}
@@ -85,6 +85,20 @@ told_rates xs = map flat xs
 
 abbrev pub told_group : Given → Listing
 told_group a = record { n = a.n; rates = told_rates a.rates }
+
+-- WHAT IS TOLD SAYS ALL: a listing is told as no other
+abbrev held : Rated → Held
+held r = record { refusal = r.refusal; place = r.place; exact = r.exact; low = r.low; high = r.high }
+
+held_again : (xs : List Held) → map held (told_rates xs) ≡ xs
+held_again [] = refl
+held_again (x ∷ xs) = ap (λ ys. x ∷ ys) (held_again xs)
+
+pub listing_told_once : (a b : Given) → told_group a ≡ told_group b → a ≡ b
+listing_told_once a b e = same a b (ap (λ (l : Listing). l.n) e) (sym (held_again a.rates) ∙ ap (λ (l : Listing). map held l.rates) e ∙ held_again b.rates)
+  where
+    same : (a b : Given) → a.n ≡ b.n → a.rates ≡ b.rates → a ≡ b
+    same a b f g i = record { n = f i; rates = g i }
 
 -- 256 rates, of which the first n are the table's; past these the rate is refused 10
 pub record ReadListing (f : FileRead) (r : Listing) : Type 0 where

@@ -1,13 +1,14 @@
 // The rule file: reading its bytes into a table, and writing a table's bytes into a lent buffer.
 #![tactic(auto)]
 
-ghost use Rattle.std.specs.Prelude.{◌≡◌, ◌+◌, ◌≤◌, ◌<◌, length, IfOk};
+ghost use Rattle.std.specs.Prelude.{◌≡◌, ◌+◌, ◌≤◌, ◌<◌, length, IfOk, IfErr};
+ghost use Rattle.refusals.specs.Number.{number_of};
 ghost use Rattle.std.proofs.lemmas.List.Edits.{sets};
 ghost use Rattle.sevens.specs.Sevens.{code_length_of};
 ghost use Rattle.table.specs.Limits.{min_n, max_n, max_m};
-ghost use Rattle.table.specs.Form.{empty_table};
+ghost use Rattle.table.specs.Form.{empty_table, sized};
 ghost use Rattle.table.specs.Fields.{Within};
-ghost use Rattle.rulefile.specs.File.{delay_code, rule_bytes, rules_bytes, file_of, num_at, num_told, delay_meant, rule_at_of, rule_told, rules_from_of, read_of, table_told, told_read, Writes, told_written};
+ghost use Rattle.rulefile.specs.File.{delay_code, rule_bytes, rules_bytes, file_of, num_at, num_told, delay_meant, rule_at_of, rule_told, refused_read, rules_from_of, read_of, table_told, told_read, Writes, told_written};
 
 use refusals::{Refusal, Why};
 use table::{Delay, Rule, Table};
@@ -79,13 +80,22 @@ fn rules_from(bytes: &[u8], from: usize, n: u32, table: &mut Table) -> Result<()
     Ok(())
 }
 
+// n and m of a rule file, and the place after them.
+fn sizes(bytes: &[u8]) -> Result<(u32, u32, usize), Refusal>
+    ensures refused { IfErr result (λ e. refused_read (number_of e.why) e.place ≡ read_of bytes.now) }
+    ensures read { IfOk result (λ x. (x.2 ≤ length bytes.now) × (min_n ≤ x.0) × (x.0 ≤ max_n) × (x.1 ≤ max_m) × (rules_from_of bytes.now x.0 (sized x.0 x.1) x.2 0 x.1 ≡ read_of bytes.now)) }
+{
+    let (n, at) = number_at(bytes, 0, Table::MIN_N as u32, Table::MAX_N as u32)?;
+    let (m, at) = number_at(bytes, at, 0, Table::MAX_M as u32)?;
+    Ok((n, m, at))
+}
+
 // The table that a rule file holds, into an empty one; what a refusal leaves there is of no use.
 fn fill(bytes: &[u8], table: &mut Table) -> Result<(), Refusal>
     requires { table.old ≡ empty_table }
     ensures { table_told result table.new ≡ read_of bytes.now }
 {
-    let (n, at) = number_at(bytes, 0, Table::MIN_N as u32, Table::MAX_N as u32)?;
-    let (m, at) = number_at(bytes, at, 0, Table::MAX_M as u32)?;
+    let (n, m, at) = sizes(bytes)?;
     table.n = n as usize;
     table.m = m as usize;
     rules_from(bytes, at, n, table)
@@ -114,6 +124,7 @@ pub fn read(bytes: &[u8]) -> FileRead
 pub fn table(bytes: &[u8]) -> Result<Table, Refusal>
     ensures { told_read result ≡ read_of bytes.now }
 {
+    sizes(bytes)?; // what is refused here costs no room for a table
     let mut table = Table::empty();
     fill(bytes, &mut table)?;
     Ok(table)
