@@ -1,5 +1,5 @@
--- THERE IS AN OUTCOME of each of these calls, for every input: an answer or a refusal as the call hands it back (`Result`), of which what is told
--- keeps the promise. That there is only one is proved where the promises stand, and in Once.
+-- THERE IS AN OUTCOME of each of these calls, for every input: what the call hands back, of which what is told keeps the promise. That there is only
+-- one is proved where the promises stand, and in Once.
 --
 --   Buffers             == the contents of the three lent buffers: the schedule's, the low loop's, the high loop's
 --   DelaysAre t D       == the delay of every rule r of t is known, and is D r

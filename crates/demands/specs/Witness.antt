@@ -16,7 +16,7 @@
 --   text_p3             what is printed for the file of P3; filling_text_p3: and with the blank filled
 --   written_back, read_back    the file of P1 read and then written, and P1 written and then read
 --   unused_p1           P1 with other contents in a place past its rules
-use Rattle.std.specs.Prelude.{◌≡◌, refl, true, false, List, [], ◌∷◌, ◌++◌, ℕ, zero, suc, ◌+◌, ◌≤◌, ◌<◌, length, get_or, take, drop}
+use Rattle.std.specs.Prelude.{◌≡◌, refl, true, false, Result, List, [], ◌∷◌, ◌++◌, ℕ, zero, suc, ◌+◌, ◌≤◌, ◌<◌, length, get_or, take, drop}
 use Rattle.std.proofs.Common.{sym, ap, ◌∙◌, subst, inl, inr, arith}
 use Rattle.std.proofs.Math.Path.{subst⁻¹, fun_ext}
 use Rattle.std.proofs.lemmas.List.{length-replicate}
@@ -46,7 +46,9 @@ use Rattle.rulefile.specs.File.{Written}
 use Rattle.rulefile.specs.File.{rule_bytes, rules_bytes, file_of, read_of, accepted_read, written_as, Writes}
 use Rattle.rulefile.specs.RoundTrip.{file_accepted}
 use Rattle.engine.specs.Verdict.{Verdict, found, Judges, proper, never_wide_at, verdict_unique}
-use Rattle.period.specs.Promise.{Outcome, outcome, end_of, refused_analysis, outcome_of, AnalysisOf}
+use Rattle.refusals.specs.declared.Refusal.{Refusal}
+use Rattle.period.specs.declared.Analysis.{Analysis}
+use Rattle.period.specs.Promise.{Outcome, outcome, told_analysis, end_of, refused_analysis, outcome_of, AnalysisOf}
 use Rattle.rates.specs.Rate.{Rated}
 use Rattle.rates.specs.Rate.{RateVerdict, rated, JudgesRate, rate_never_wide, rate_verdict_unique, answered_rate, rated_of, RateOf}
 use Rattle.refusals.specs.Number.{Told}
@@ -173,8 +175,9 @@ pub analysis_p1 : (o : Outcome) → AnalysisOf P1 lent.schedule lent.low lent.hi
 analysis_p1 o is = lent_verdict P1 (found answer_1) p1_judged o is
 
 -- there is an outcome, and it is this one
-pub some_p1 : (o : Outcome) × AnalysisOf P1 lent.schedule lent.low lent.high o × (o ≡ outcome (exact_analysis 7 1 2) (0 ∷ 3 ∷ 9 ∷ []) (0 ∷ 1 ∷ 9 ∷ []) (0 ∷ 1 ∷ 9 ∷ []))
-some_p1 = let (r, after, is) = analysis_exists P1 lent in (_, is, analysis_p1 _ is)
+pub some_p1 : (r : Result Analysis Refusal) × (after : Buffers) × AnalysisOf P1 lent.schedule lent.low lent.high (outcome (told_analysis r) after.schedule after.low after.high)
+    × (outcome (told_analysis r) after.schedule after.low after.high ≡ outcome (exact_analysis 7 1 2) (0 ∷ 3 ∷ 9 ∷ []) (0 ∷ 1 ∷ 9 ∷ []) (0 ∷ 1 ∷ 9 ∷ []))
+some_p1 = let (r, after, is) = analysis_exists P1 lent in (r, after, is, analysis_p1 _ is)
 
 pub given_p1 : (o : Outcome) → AnalysisOf P1 lent.schedule lent.low lent.high o → GivenPeriod P1 delays_p1 lent o
 given_p1 o is = given_period P1 delays_p1 p1_known lent o is (ap (λ (z : Outcome). z.result.refusal) (analysis_p1 o is))
