@@ -14,7 +14,7 @@
 --                                   file, 0 or 1, a refusal f and its place p
 --   BetterOf x y r w f p            THE PROMISE of `better`
 --
--- Theorems: bid_unique, laid_unique, better_unique (one outcome each); bid_first (the first bytes of a file decide).
+-- Theorems: bid_unique, laid_unique, better_unique (one outcome each); laid_told (what is told says all); bid_first (the first bytes of a file decide).
 use Rattle.std.specs.Prelude.{◌≡◌, Bool, false, Result, Ok, Err, List, [], ℕ, ◌+◌, ◌*◌, ◌≤◌, ◌<◌, ltb, take}
 use Rattle.std.proofs.Common.{sym, ap, ◌∙◌, subst, arith}
 use Rattle.std.proofs.Math.Logic.{by_cases}
@@ -115,6 +115,14 @@ pub record Laid : Type 0 where
 
 abbrev pub told_laid : Given → Laid
 told_laid l = record { first = told_bid l.first; second = told_bid l.second; choice = l.choice }
+
+-- WHAT IS TOLD SAYS ALL: two bids and the choice between them are told as no others, if a bid is (bid_told_once in demands/Once)
+pub laid_told : ((x y : Result Range Refusal) → told_bid x ≡ told_bid y → x ≡ y) → (l m : Given) → told_laid l ≡ told_laid m → l ≡ m
+laid_told once l m e =
+    same l m (once l.first m.first (ap (λ (z : Laid). z.first) e)) (once l.second m.second (ap (λ (z : Laid). z.second) e)) (ap (λ (z : Laid). z.choice) e)
+  where
+    same : (l m : Given) → l.first ≡ m.first → l.second ≡ m.second → l.choice ≡ m.choice → l ≡ m
+    same l m f g c i = record { first = f i; second = g i; choice = c i }
 
 pub record LaidOf (s t : List ℕ) (l : Laid) : Type 0 where
   pub first : BidOf s l.first

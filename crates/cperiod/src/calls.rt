@@ -99,8 +99,6 @@ impl From<Result<(), Refusal>> for PeriodStatus {
     }
 }
 
-// These four have a `match` where `?` would do: with `?` the table, of 32 KB, is copied once more.
-
 // The analysis of what was handed in.
 pub fn analysed(
     handed: Result<Table, Refusal>,
@@ -110,13 +108,10 @@ pub fn analysed(
 ) -> Result<Analysis, Refusal>
     ensures { AnalysisFrom (told_handed handed) schedule.old low.old high.old (flat_analysis_of (told_analysis result)) schedule.new low.new high.new }
 {
-    match handed {
-        Ok(t) => period::analyse(t, schedule, low, high),
-        Err(e) => Err(e),
-    }
+    period::analyse(handed?, schedule, low, high)
 }
 
-// The rate of transition v of what was handed in.
+// The rate of transition v of what was handed in. A `match`, and no `?`, with which the columns laid from the table, 28 KB, are copied once more.
 pub fn rated(handed: Result<Table, Refusal>, v: usize) -> Result<Range, Refusal>
     ensures { RateFrom (told_handed handed) v (flat_rate_of (told_rate result)) }
 {
@@ -130,10 +125,7 @@ pub fn rated(handed: Result<Table, Refusal>, v: usize) -> Result<Range, Refusal>
 pub fn written(handed: Result<Table, Refusal>, out: &mut [u8]) -> Result<usize, Refusal>
     ensures { WritingFrom (told_handed handed) out.old (flat_count (told_written result)) out.new }
 {
-    match handed {
-        Ok(t) => rulefile::write(t, out),
-        Err(e) => Err(e),
-    }
+    rulefile::write(handed?, out)
 }
 
 // The timing simulation of what was handed in.
@@ -144,10 +136,7 @@ pub fn simulated(
 ) -> Result<(), Refusal>
     ensures { SimulationFrom (told_handed handed) occurrences times.old (flat_status (told result)) times.new }
 {
-    match handed {
-        Ok(t) => simulation::simulate(t, occurrences, times),
-        Err(e) => Err(e),
-    }
+    simulation::simulate(handed?, occurrences, times)
 }
 
 // The text for a file into a lent buffer.

@@ -6,7 +6,7 @@
 --   call                 there is an outcome (Exists)                 and only one (proved where the promise stands)
 --   sevens::number       number_exists (here)                         its promise `Read` has the answer as an equation
 --   table::check         judged_exists                                judged_unique
---   read                 its promise is the equation `r ≡ read_of s`
+--   read                 its promise is the equation `r ≡ read_of s`; of the Result of `rulefile::table`: file_exists (Reading)
 --   write                writes_exists                                writes_unique
 --   analyse              analysis_exists                              analysis_unique
 --   rate                 rated_exists                                 rate_unique

@@ -84,20 +84,20 @@ pub record Buffers : Type 0 where
 abbrev pub buffers : List ℕ → List ℕ → List ℕ → Buffers
 buffers x l h = record { schedule = x; low = l; high = h }
 
--- what holds of both holds of the one picked
+-- as `picked` (Reading), of the choice that an outcome is made by
 either : {A : Type 0} (P : A → Type 0) (c : Bool) (x y : A) → P x → P y → P (pick c x y)
 either P true x y a b = a
 either P false x y a b = b
 
 -- an outcome of which the result is told by what a call may hand back
-abbrev Handed_back : Outcome → Type 0
-Handed_back o = (r : Result Analysis Refusal) × (after : Buffers) × (o ≡ outcome (told_analysis r) after.schedule after.low after.high)
+abbrev HandedBack : Outcome → Type 0
+HandedBack o = (r : Result Analysis Refusal) × (after : Buffers) × (o ≡ outcome (told_analysis r) after.schedule after.low after.high)
 
 module _ (t : Table) (b : Buffers) where
-  refuses_with : (w : Why) (p : ℕ) → Handed_back (outcome (told_analysis (Err (refusal w p))) b.schedule b.low b.high)
+  refuses_with : (w : Why) (p : ℕ) → HandedBack (outcome (told_analysis (Err (refusal w p))) b.schedule b.low b.high)
   refuses_with w p = (Err (refusal w p), b, refl)
 
-  judged : (v : Verdict) → Judges t v → Handed_back (judged_outcome v b.schedule b.low b.high)
+  judged : (v : Verdict) → Judges t v → HandedBack (judged_outcome v b.schedule b.low b.high)
   judged (outside k) j = refuses_with Range k
   judged (knotted u) j = refuses_with Loop u
   judged flat j = refuses_with Flat 0
@@ -112,17 +112,17 @@ module _ (t : Table) (b : Buffers) where
     refl,
   )
 
-  roomy : (v : Verdict) → Judges t v → Handed_back (room_for t.n v b.schedule b.low b.high)
+  roomy : (v : Verdict) → Judges t v → HandedBack (room_for t.n v b.schedule b.low b.high)
   roomy v j =
-      either Handed_back (ltb (length b.schedule) t.n) _ _ (refuses_with Room t.n)
-      (either Handed_back (ltb (length b.low) t.n) _ _ (refuses_with Room t.n)
-      (either Handed_back (ltb (length b.high) t.n) _ _ (refuses_with Room t.n) (judged v j)))
+      either HandedBack (ltb (length b.schedule) t.n) _ _ (refuses_with Room t.n)
+      (either HandedBack (ltb (length b.low) t.n) _ _ (refuses_with Room t.n)
+      (either HandedBack (ltb (length b.high) t.n) _ _ (refuses_with Room t.n) (judged v j)))
 
   -- AN ANALYSIS
   pub analysis_exists : (r : Result Analysis Refusal) × (after : Buffers) × AnalysisOf t b.schedule b.low b.high (outcome (told_analysis r) after.schedule after.low after.high)
   analysis_exists =
       let (v, j) = verdict_exists t in
-      let (r, after, e) = either Handed_back (is_outside v) _ _ (judged v j) (roomy v j) in
+      let (r, after, e) = either HandedBack (is_outside v) _ _ (judged v j) (roomy v j) in
       (r, after, record { verdict = v; judged = j; result = sym e })
 
 -- A RATE

@@ -17,8 +17,8 @@ use Rattle.engine.specs.declared.Range.{Range}
 use Rattle.engine.specs.declared.Lap.{Lap as Measured}
 use Rattle.engine.specs.Lap.{Lap, told_lap}
 use Rattle.rates.specs.Rate.{Rated, told_rate}
-use Rattle.bids.specs.declared.Laid.{Laid as Side_by_side}
-use Rattle.bids.specs.Promise.{Bid, told_bid, Laid, told_laid}
+use Rattle.bids.specs.declared.Laid.{Laid as SideBySide}
+use Rattle.bids.specs.Promise.{Bid, told_bid, told_laid, laid_told}
 use Rattle.period.specs.declared.Analysis.{Analysis as Analysed}
 use Rattle.period.specs.Promise.{Analysis, told_analysis}
 use Rattle.rulefile.specs.declared.FileRead.{FileRead}
@@ -73,9 +73,5 @@ number_told_once (Ok a) (Err f) v e = absurd (omega (arith, number_positive f.wh
 number_told_once (Err f) (Ok b) v e = absurd (omega (arith, number_positive f.why, ap (λ (t : Told). t.refusal) e))
 number_told_once (Err f) (Err g) v e = ap Err (same_refusal f g (ap (λ (t : Told). t.refusal) e) (ap (λ (t : Told). t.place) e))
 
-pub laid_told_once : (x y : Side_by_side) → told_laid x ≡ told_laid y → x ≡ y
-laid_told_once x y e =
-    same x y (bid_told_once x.first y.first (ap (λ (l : Laid). l.first) e)) (bid_told_once x.second y.second (ap (λ (l : Laid). l.second) e)) (ap (λ (l : Laid). l.choice) e)
-  where
-    same : (x y : Side_by_side) → x.first ≡ y.first → x.second ≡ y.second → x.choice ≡ y.choice → x ≡ y
-    same x y f g c i = record { first = f i; second = g i; choice = c i }
+pub laid_told_once : (x y : SideBySide) → told_laid x ≡ told_laid y → x ≡ y
+laid_told_once = laid_told bid_told_once

@@ -1,7 +1,10 @@
 -- WHAT READING HANDS BACK, for every file: a table, or a refusal for one of the paper's reasons, of which what is told is what the promise says (`read_of`).
 --
---   refusal w p         == the refusal for the reason w at the place p
+--   refusal w p                   == the refusal for the reason w at the place p
 --   ToldNum, ToldRule, ToldFile   == some result of the code is told so: of a number, of a rule, of a file
+--   picked                        what holds of both holds of the one picked
+--
+-- Theorem: file_exists.
 use Rattle.std.specs.Prelude.{◌≡◌, refl, Bool, true, false, Result, Ok, Err, List, ℕ, zero, suc, ◌+◌, ◌-◌, ◌<◌, length, ltb}
 use Rattle.std.proofs.Common.{subst}
 use Rattle.std.proofs.Math.Path.{subst⁻¹}
@@ -68,15 +71,14 @@ ToldFile x = (r : Result Table Refusal) × (told_read r ≡ x)
 bad_file : (w : Why) (p : ℕ) → ToldFile (refused_read (number_of w) p)
 bad_file w p = (Err (refusal w p), refl)
 
--- what follows a rule x, or its refusal
+-- what follows a rule x, or its refusal, is told so
+abbrev ToldAfter : List ℕ → ℕ → Table → ℕ → ℕ → RuleRead → Type 0
+ToldAfter s n t r left x = ToldFile (pick (ltb 0 x.refusal) (refused_read x.refusal x.place) (rules_from_of s n (with_rule t r x.rule) x.next (r + 1) left))
+
 after : (s : List ℕ) (n : ℕ) (t : Table) (r left : ℕ) (x : RuleRead) → ToldRule x → ((y : Rule) (next : ℕ) → ToldFile (rules_from_of s n (with_rule t r y) next (r + 1) left))
-    → ToldFile (pick (ltb 0 x.refusal) (refused_read x.refusal x.place) (rules_from_of s n (with_rule t r x.rule) x.next (r + 1) left))
-after s n t r left x (Err e, same) more =
-    subst (λ (z : RuleRead). ToldFile (pick (ltb 0 z.refusal) (refused_read z.refusal z.place) (rules_from_of s n (with_rule t r z.rule) z.next (r + 1) left))) same
-    (simp (lt-ltb 0 (number_of e.why) (number_positive e.why)) (bad_file e.why e.place))
-after s n t r left x (Ok y, same) more =
-    subst (λ (z : RuleRead). ToldFile (pick (ltb 0 z.refusal) (refused_read z.refusal z.place) (rules_from_of s n (with_rule t r z.rule) z.next (r + 1) left))) same
-    (more y.0 y.1)
+    → ToldAfter s n t r left x
+after s n t r left x (Err e, same) more = subst (ToldAfter s n t r left) same (simp (lt-ltb 0 (number_of e.why) (number_positive e.why)) (bad_file e.why e.place))
+after s n t r left x (Ok y, same) more = subst (ToldAfter s n t r left) same (more y.0 y.1)
 
 rules : (s : List ℕ) (n : ℕ) (t : Table) (at r left : ℕ) → ToldFile (rules_from_of s n t at r left)
 unfolding rules_from_of
